@@ -1,3 +1,8 @@
 pub mod Lists
 pub mod Safety
 pub mod Exact
+pub mod Parts
+pub mod Distinct
+pub mod Put
+pub mod Remove
+pub mod Reset
