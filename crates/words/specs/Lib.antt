@@ -1,0 +1,3 @@
+pub mod Fault
+pub mod Lines
+pub mod Writing
