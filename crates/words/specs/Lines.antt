@@ -38,3 +38,43 @@ readEntry size (b ∷ bytes) =
 abbrev pub entryOf : Option Entry → Option (Line × List ℕ)
 entryOf None = None
 entryOf (Some e) = Some (record { arrival = e .arrival; body = e .body .now }, e .rest .now)
+
+-- a line before the lines that were read behind it
+abbrev pub before : Line → Option (List Line) → Option (List Line)
+before l None = None
+before l (Some ls) = Some (l ∷ ls)
+
+-- a line that was read, and what is read of the bytes behind it
+abbrev pub andThen : Option (Line × List ℕ) → (List ℕ → Option (List Line)) → Option (List Line)
+andThen None next = None
+andThen (Some entry) next = before (entry .0) (next (entry .1))
+
+-- so many lines, with bodies of `size` bytes, that end where the bytes end
+unfoldable pub readLines : ℕ → ℕ → List ℕ → Option (List Line)
+readLines size zero [] = Some []
+readLines size zero (b ∷ bytes) = None
+readLines size (suc k) bytes = andThen (readEntry size bytes) (readLines size k)
+
+-- whether an arrival is for one of n outputs
+abbrev pub fits : ℕ → Arrival → Bool
+fits n Nothing = true
+fits n (For o) = ltb o n
+
+-- whether every line is for one of n outputs
+unfoldable pub allFit : ℕ → List Line → Bool
+allFit n [] = true
+allFit n (l ∷ ls) = fits n (l .arrival) && allFit n ls
+
+-- lines that were read, or the lowest fault: not read, an output that is not there, too late
+abbrev pub judged : ℕ → Bool → Option (List Line) → Result (List Line) Fault
+judged n late None = Err Malformed
+judged n late (Some ls) = cond (allFit n ls) (cond late (Err SlotLimit) (Ok ls)) (Err NoSuchOutput)
+
+-- the n lines of a word, or its lowest fault
+abbrev pub judge : ℕ → ℕ → Bool → List ℕ → Result (List Line) Fault
+judge n size late bytes = judged n late (readLines size n bytes)
+
+-- whether there is a value, or the fault
+abbrev pub verdict : Result (List Line) Fault → Result (Unit {0}) Fault
+verdict (Ok ls) = Ok tt
+verdict (Err fault) = Err fault

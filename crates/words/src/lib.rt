@@ -5,6 +5,8 @@ pub mod write;
 
 pub use fault::Fault;
 pub use read::Entry;
+pub use read::body_of;
+pub use read::judge_lines;
 pub use read::read_entry;
 pub use read::read_settings;
 pub use write::write_byte;

@@ -1,12 +1,13 @@
 // Readers of words: each gives what the bytes say, or that they say nothing.
 ghost use mathlib.Core.Path.{_≡_};
-ghost use mathlib.Core.Bool.{Bool, true};
+ghost use mathlib.Core.Bool.{_&&_};
 ghost use lib.ListN.{length};
-ghost use Rattle.words.specs.Lines.{settings, readEntry, entryOf};
+ghost use Rattle.words.specs.Lines.{settings, readEntry, entryOf, fits, judge, verdict};
 use crate::MOST_LINES;
 use crate::NONE;
 use crate::fault::Fault;
 use crossbox::Arrival;
+use std::simd::prelude::*;
 
 // The number of lines that a settings word gives.
 pub fn read_settings(word: &[u8]) -> Result<u8, Fault>
@@ -51,4 +52,49 @@ pub fn read_entry(bytes: &[u8], size: usize) -> Option<Entry<'_>>
         body: &behind[0..size],
         rest: &behind[size..],
     })
+}
+
+// What a cell carries, as an array.
+pub fn body_of(bytes: &[u8]) -> [u8; 64]
+    requires { ⌜ length (now bytes) ≡ 64 ⌝ }
+    ensures { λ r. ⌜ r ≡ now (bytes .entry) ⌝ }
+{
+    u8x64::from_slice(bytes).to_array()
+}
+
+// Whether all lines so far and this one are for outputs that are there.
+fn still_fit(all: bool, n: u8, arrival: Arrival) -> bool
+    ensures { λ r. ⌜ r ≡ (all && fits n arrival) ⌝ }
+{
+    match arrival {
+        Arrival::Nothing => all,
+        Arrival::For(output) => all && output < n,
+    }
+}
+
+// Judges the n lines of a word, whose bytes have to end with the last: the lowest fault, or none.
+pub fn judge_lines(n: u8, size: usize, late: bool, bytes: &[u8]) -> Result<(), Fault>
+    ensures { λ r. ⌜ r ≡ verdict (judge n size late (now (bytes .entry))) ⌝ }
+{
+    let mut rest = bytes;
+    let mut all_fit = true;
+    let mut left = n;
+    while left > 0 {
+        let Some(entry) = read_entry(rest, size) else {
+            return Err(Fault::Malformed);
+        };
+        all_fit = still_fit(all_fit, n, entry.arrival);
+        rest = entry.rest;
+        left -= 1;
+    }
+    if rest.len() > 0 {
+        return Err(Fault::Malformed);
+    }
+    if !all_fit {
+        return Err(Fault::NoSuchOutput);
+    }
+    if late {
+        return Err(Fault::SlotLimit);
+    }
+    Ok(())
 }
