@@ -1,3 +1,4 @@
 pub mod Entries
 pub mod Overwrites
 pub mod Scans
+pub mod Spelled

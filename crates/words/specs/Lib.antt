@@ -1,3 +1,4 @@
 pub mod Fault
 pub mod Lines
+pub mod Spelling
 pub mod Writing

@@ -1,6 +1,7 @@
 // Words: the bytes that a box is given and the bytes that it answers.
 pub mod fault;
 pub mod read;
+pub mod spelling;
 pub mod write;
 
 pub use fault::Fault;
@@ -9,6 +10,8 @@ pub use read::body_of;
 pub use read::judge_lines;
 pub use read::read_entry;
 pub use read::read_settings;
+pub use spelling::lines_are_read_as_spelled;
+pub use spelling::written_lines_are_read;
 pub use write::write_byte;
 pub use write::write_departure;
 pub use write::write_refusal;

@@ -1,0 +1,16 @@
+// The theorems on words: each is the contract of a function.
+ghost use Rattle.words.specs.Spelling.{ReadIsSpelled, WrittenIsRead};
+
+// Bytes are read as lines just where they are these lines one after the other.
+pub fn lines_are_read_as_spelled() -> u8
+    ensures { λ _. ⌜ ReadIsSpelled ⌝ }
+{
+    0
+}
+
+// Lines that are written are read back.
+pub fn written_lines_are_read() -> u8
+    ensures { λ _. ⌜ WrittenIsRead ⌝ }
+{
+    0
+}
