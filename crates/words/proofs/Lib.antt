@@ -2,3 +2,4 @@ pub mod Entries
 pub mod Overwrites
 pub mod Scans
 pub mod Spelled
+pub mod Answered

@@ -10,6 +10,7 @@ pub use read::body_of;
 pub use read::judge_lines;
 pub use read::read_entry;
 pub use read::read_settings;
+pub use spelling::answers_are_read;
 pub use spelling::lines_are_read_as_spelled;
 pub use spelling::written_lines_are_read;
 pub use write::write_byte;
