@@ -1,13 +1,13 @@
 -- Writes into a buffer: one after the other is one of both, and how long what is written is.
-use mathlib.Core.Path.{_≡_, refl, sym, ap, subst, _∙_}
+use mathlib.Core.Path.{_≡_, refl, sym, ap, _∙_}
 use mathlib.Core.List.{List, [], _∷_, _++_}
-use Prim.Native.Nat.{ℕ, zero, suc, _+_, _-_, _<_, _≤_}
+use Prim.Native.Nat.{ℕ, _+_, _-_, _≤_}
 use native.Mathlib.Omega.{arith}
-use lib.ListN.{length, take, drop, getD, set}
+use lib.ListN.{length, take, drop, set}
 use lib.Lanes.{putChunk}
 use lib.Seq.{paste}
 use borrow.Rule.Slice.PartMut.{putMid}
-use Rattle.std.proofs.shelf.Lists.{append-assoc, length-append, length-take-le, length-drop, take-append-drop}
+use Rattle.std.proofs.shelf.Lists.{append-assoc, length-append, length-take-le, length-drop}
 use Rattle.std.proofs.shelf.Edits.{paste-paste, paste-all, sets-eq}
 use Rattle.std.proofs.shelf.Parts.{putMid-paste}
 use Rattle.crossbox.specs.declared.Cell.{Cell}

@@ -2,15 +2,14 @@
 use mathlib.Core.Path.{_≡_, refl, sym, ap, subst, _∙_}
 use mathlib.Core.Bool.{Bool, true, false, cond, _&&_}
 use mathlib.Core.List.{List, [], _∷_}
-use Prim.Native.Nat.{ℕ, zero, suc, _+_, _-_, _<_, _≤_}
+use Prim.Native.Nat.{ℕ, zero, suc, _-_, _<_, _≤_}
 use native.Mathlib.Omega.{arith}
 use lib.ListN.{length}
 use Rattle.std.specs.declared.option.Option.{Option}
 use Rattle.std.specs.declared.option.Option.the-variants.{Some, None}
-use Rattle.std.specs.declared.result.Result.{Result}
 use Rattle.std.specs.declared.result.Result.the-variants.{Ok, Err}
-use Rattle.words.specs.declared.fault.Fault.the-variants.{Malformed, LineCount, NoSuchOutput, SlotLimit}
-use Rattle.words.specs.Lines.{Line, readEntry, readLines, before, andThen, fits, allFit, judged, judge, verdict}
+use Rattle.words.specs.declared.fault.Fault.the-variants.{Malformed, NoSuchOutput, SlotLimit}
+use Rattle.words.specs.Lines.{Line, readEntry, readLines, before, fits, allFit, judged, judge, verdict}
 
 -- whether all lines fit, of those before and those that were read
 abbrev pub scanned : ℕ → Bool → Option (List Line) → Option Bool

@@ -1,10 +1,7 @@
 -- The bytes of an answer, and what writing them into a buffer leaves.
-use mathlib.Core.Bool.{Bool, true, false, cond}
 use mathlib.Core.List.{List, [], _∷_, _++_}
 use Prim.Native.Nat.{ℕ, _+_, _/_, _%_}
 use lib.ListN.{length, take, drop}
-use Rattle.std.specs.declared.option.Option.{Option}
-use Rattle.std.specs.declared.option.Option.the-variants.{Some, None}
 use Rattle.crossbox.specs.declared.Cell.{Cell}
 use Rattle.words.specs.declared.fault.Fault.{Fault}
 use Rattle.words.specs.Fault.{number}

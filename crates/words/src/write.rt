@@ -1,10 +1,9 @@
 // Writers of answers: each writes at a place of the buffer, and gives the place behind what it wrote.
 ghost use mathlib.Core.Path.{_≡_};
-ghost use mathlib.Core.List.{List, [], _∷_};
-ghost use Prim.Native.Nat.{ℕ, _+_, _<_, _≤_};
+ghost use mathlib.Core.List.{[], _∷_};
+ghost use Prim.Native.Nat.{_+_, _≤_};
 ghost use lib.ListN.{length};
-ghost use Rattle.words.specs.Writing.{overwrite, departureBytes, refusalBytes};
-use crate::ANSWER_BYTES;
+ghost use Rattle.words.specs.Writing.{overwrite, bigEndian4, departureBytes, refusalBytes};
 use crate::BODY;
 use crate::REFUSAL;
 use crate::fault::Fault;
@@ -39,19 +38,28 @@ fn write_body(out: &mut [u8; 2241], at: usize, body: &[u8; 64]) -> usize
     at + BODY
 }
 
+// Writes a number of 32 bits, high byte first.
+fn write_number(out: &mut [u8; 2241], at: usize, x: u32) -> usize
+    requires { ⌜ at + 4 ≤ 2241 ⌝ }
+    ensures bytes { λ _. ⌜ now (out .exit) ≡ overwrite at (bigEndian4 x) (now (out .entry)) ⌝ }
+    ensures next { λ r. ⌜ r ≡ at + 4 ⌝ }
+{
+    let bytes = x.to_be_bytes();
+    let second = write_byte(out, at, bytes[0]);
+    let third = write_byte(out, second, bytes[1]);
+    let fourth = write_byte(out, third, bytes[2]);
+    write_byte(out, fourth, bytes[3])
+}
+
 // Writes a cell that leaves: its input, the slot in which it arrived, and what it carries.
 pub fn write_departure(out: &mut [u8; 2241], at: usize, cell: Cell, body: &[u8; 64]) -> usize
     requires { ⌜ at + 69 ≤ 2241 ⌝ }
     ensures bytes { λ _. ⌜ now (out .exit) ≡ overwrite at (departureBytes cell (now (body .entry))) (now (out .entry)) ⌝ }
     ensures next { λ r. ⌜ r ≡ at + 69 ⌝ }
 {
-    let slot = cell.slot.to_be_bytes();
-    let first = write_byte(out, at, cell.input);
-    let second = write_byte(out, first, slot[0]);
-    let third = write_byte(out, second, slot[1]);
-    let fourth = write_byte(out, third, slot[2]);
-    let behind = write_byte(out, fourth, slot[3]);
-    write_body(out, behind, body)
+    let slot = write_byte(out, at, cell.input);
+    let carried = write_number(out, slot, cell.slot);
+    write_body(out, carried, body)
 }
 
 // Writes a refusal at the buffer's start.
