@@ -1,0 +1,6 @@
+use borrow.Author.Needs.{needs}
+use Rattle.words.proofs.Overwrites.{put-whole}
+use Rattle.words.proofs.write.copy_body.Needs as need
+
+pub returns : need.returns
+returns c = put-whole (c .args .part .now) (c .args .body .now) (search needs)

@@ -1,0 +1,5 @@
+pub mod Answer
+pub mod Fault
+pub mod Lines
+pub mod Spelling
+pub mod Writing

@@ -1,0 +1,72 @@
+// Writers of answers: each writes at a place of the buffer, and gives the place behind what it wrote.
+ghost use mathlib.Core.Path.{_≡_};
+ghost use mathlib.Core.List.{[], _∷_};
+ghost use Prim.Native.Nat.{_+_, _≤_};
+ghost use lib.ListN.{length};
+ghost use Rattle.words.specs.Writing.{overwrite, bigEndian4, departureBytes, refusalBytes};
+use crate::BODY;
+use crate::REFUSAL;
+use crate::fault::Fault;
+use crossbox::Cell;
+use std::simd::prelude::*;
+
+// Writes one byte.
+pub fn write_byte(out: &mut [u8; 2241], at: usize, b: u8) -> usize
+    requires { ⌜ at + 1 ≤ 2241 ⌝ }
+    ensures bytes { λ _. ⌜ now (out .exit) ≡ overwrite at (b ∷ []) (now (out .entry)) ⌝ }
+    ensures next { λ r. ⌜ r ≡ at + 1 ⌝ }
+{
+    out[at] = b;
+    at + 1
+}
+
+// Copies what a cell carries into a part as long.
+fn copy_body(part: &mut [u8], body: &[u8; 64])
+    requires { ⌜ length (now part) ≡ 64 ⌝ }
+    ensures { λ _. ⌜ now (part .exit) ≡ now (body .entry) ⌝ }
+{
+    u8x64::from_array(*body).copy_to_slice(part);
+}
+
+// Writes what a cell carries.
+fn write_body(out: &mut [u8; 2241], at: usize, body: &[u8; 64]) -> usize
+    requires { ⌜ at + 64 ≤ 2241 ⌝ }
+    ensures bytes { λ _. ⌜ now (out .exit) ≡ overwrite at (now (body .entry)) (now (out .entry)) ⌝ }
+    ensures next { λ r. ⌜ r ≡ at + 64 ⌝ }
+{
+    copy_body(&mut out[at..at + BODY], body);
+    at + BODY
+}
+
+// Writes a number of 32 bits, high byte first.
+fn write_number(out: &mut [u8; 2241], at: usize, x: u32) -> usize
+    requires { ⌜ at + 4 ≤ 2241 ⌝ }
+    ensures bytes { λ _. ⌜ now (out .exit) ≡ overwrite at (bigEndian4 x) (now (out .entry)) ⌝ }
+    ensures next { λ r. ⌜ r ≡ at + 4 ⌝ }
+{
+    let bytes = x.to_be_bytes();
+    let second = write_byte(out, at, bytes[0]);
+    let third = write_byte(out, second, bytes[1]);
+    let fourth = write_byte(out, third, bytes[2]);
+    write_byte(out, fourth, bytes[3])
+}
+
+// Writes a cell that leaves: its input, the slot in which it arrived, and what it carries.
+pub fn write_departure(out: &mut [u8; 2241], at: usize, cell: Cell, body: &[u8; 64]) -> usize
+    requires { ⌜ at + 69 ≤ 2241 ⌝ }
+    ensures bytes { λ _. ⌜ now (out .exit) ≡ overwrite at (departureBytes cell (now (body .entry))) (now (out .entry)) ⌝ }
+    ensures next { λ r. ⌜ r ≡ at + 69 ⌝ }
+{
+    let slot = write_byte(out, at, cell.input);
+    let carried = write_number(out, slot, cell.slot);
+    write_body(out, carried, body)
+}
+
+// Writes a refusal at the buffer's start.
+pub fn write_refusal(out: &mut [u8; 2241], fault: Fault) -> usize
+    ensures bytes { λ _. ⌜ now (out .exit) ≡ overwrite 0 (refusalBytes fault) (now (out .entry)) ⌝ }
+    ensures next { λ r. ⌜ r ≡ 2 ⌝ }
+{
+    let number = write_byte(out, 0, REFUSAL);
+    write_byte(out, number, fault.number())
+}
