@@ -1,0 +1,62 @@
+-- What the steps of a slot leave in memory, input by input and output by output. Assumes nothing.
+use mathlib.Core.Path.{_≡_}
+use mathlib.Core.Bool.{Bool, true, false, cond, not}
+use mathlib.Core.List.{List, [], _∷_}
+use Prim.Native.Nat.{ℕ, zero, suc, _+_, _<_}
+use lib.Dec.{eqb, ltb}
+use lib.ListN.{length, getD}
+use Rattle.std.specs.declared.option.Option.the-variants.{Some, None}
+use Rattle.crossbox.specs.declared.Arrival.{Arrival}
+use Rattle.crossbox.specs.declared.Arrival.the-variants.{Nothing, For}
+use Rattle.buffer.specs.Head.{cellOf}
+use Rattle.buffer.specs.Memory.{Mem, rowLength, headAt, placeAt, put, remove}
+use Rattle.words.specs.Lines.{Line}
+use Rattle.words.specs.Answer.{Departure}
+use Rattle.ideal.specs.State.{State}
+
+-- what arrives is nothing, or a cell of 64 bytes for an output that is there
+abbrev pub Brings : ℕ → Arrival → List ℕ → Type 0
+Brings n Nothing body = Unit {0}
+Brings n (For o) body = (o < n) × (length body ≡ 64)
+
+-- whether the queue of what arrives is full
+abbrev pub turnedAway : Mem → Arrival → Bool
+turnedAway m Nothing = false
+turnedAway m (For o) = not (ltb (rowLength m o) 256)
+
+-- the memory when what arrives by input i in slot t has been put to the end of its queue, if that has room
+abbrev pub admitIn : ℕ → ℕ → Arrival → List ℕ → Mem → Mem
+admitIn t i Nothing body m = m
+admitIn t i (For o) body m =
+    cond (ltb (rowLength m o) 256) (put o (rowLength m o) (record { slot = t; input = i; output = o }) body m) m
+
+abbrev pub admitOne : ℕ → Arrival → List ℕ → State → State
+admitOne i x body s = record { mem = admitIn (s .slots) i x body (s .mem); lines = s .lines; slots = s .slots }
+
+-- a line of a slot in which nothing arrives
+abbrev pub noLine : Line
+noLine = record { arrival = Nothing; body = [] }
+
+-- the memory when the lines of the first k inputs have been admitted in slot t
+unfoldable pub admitAll : ℕ → List Line → ℕ → Mem → Mem
+admitAll t ls zero m = m
+admitAll t ls (suc k) m = admitIn t k (getD ls k noLine .arrival) (getD ls k noLine .body) (admitAll t ls k m)
+
+-- whether the line of input i is turned away, when its turn comes
+abbrev pub away : ℕ → List Line → Mem → ℕ → Bool
+away t ls m i = turnedAway (admitAll t ls i m) (getD ls i noLine .arrival)
+
+-- what leaves by output o: the first of its queue
+abbrev pub departureOf : ℕ → Mem → Departure
+departureOf o m =
+    cond (eqb (rowLength m o) 0) None
+    (Some (cellOf (headAt m (placeAt o 0 m)), getD (m .cells) (placeAt o 0 m) []))
+
+-- the memory when that has left
+abbrev pub departOne : ℕ → Mem → Mem
+departOne o m = cond (eqb (rowLength m o) 0) m (remove o 0 m)
+
+-- the memory when the first of each of the first k queues has left
+unfoldable pub departAll : ℕ → Mem → Mem
+departAll zero m = m
+departAll (suc k) m = departOne k (departAll k m)
