@@ -1,3 +1,7 @@
+pub mod Box
 pub mod Cells
 pub mod Ideal
 pub mod Machine
+pub mod Promise
+pub mod Shape
+pub mod Slack
