@@ -1,1 +1,6 @@
+pub mod Cells
+pub mod Choices
+pub mod Lists
 pub mod Machine
+pub mod Slack
+pub mod Stores
