@@ -2,5 +2,6 @@ pub mod Cells
 pub mod Choices
 pub mod Lists
 pub mod Machine
+pub mod Shape
 pub mod Slack
 pub mod Stores
