@@ -1,5 +1,6 @@
 pub mod Cells
 pub mod Choices
+pub mod Held
 pub mod Lists
 pub mod Machine
 pub mod Shape
