@@ -3,6 +3,7 @@ pub mod Choices
 pub mod Held
 pub mod Lists
 pub mod Machine
+pub mod Same
 pub mod Shape
 pub mod Slack
 pub mod Stores
