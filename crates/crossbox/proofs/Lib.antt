@@ -3,6 +3,8 @@ pub mod Choices
 pub mod Held
 pub mod Lists
 pub mod Machine
+pub mod Pairs
+pub mod Runs
 pub mod Same
 pub mod Shape
 pub mod Slack
