@@ -1,1 +1,12 @@
+pub mod Asking
+pub mod Cells
+pub mod Choices
+pub mod Held
+pub mod Lists
 pub mod Machine
+pub mod Pairs
+pub mod Runs
+pub mod Same
+pub mod Shape
+pub mod Slack
+pub mod Stores
