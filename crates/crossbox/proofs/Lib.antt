@@ -1,6 +1,7 @@
 pub mod Asking
 pub mod Cells
 pub mod Choices
+pub mod Finding
 pub mod Held
 pub mod Lists
 pub mod Machine
