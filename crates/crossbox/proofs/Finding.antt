@@ -228,16 +228,9 @@ module _ (n : ℕ) (b : Box) (placed : WellPlaced n b) (order : InOrder b) where
               ];
         }
 
-    -- the finding after the ask, by what the input kept
-    abbrev answered-by : Option Cell → Finding
-    answered-by x =
-        cond (prefers b c x)
-        (record { kept = keeping (c .input) c (s .kept); refused = refusing (c .input) x (s .refused); asks = suc (s .asks) })
-        (record { kept = s .kept; refused = refusing (c .input) (Some c) (s .refused); asks = suc (s .asks) })
-
-    good-answered-by : (x : Option Cell) → s .kept (c .input) ≡ x → Good b (answered-by x)
-    good-answered-by None e = good-first e
-    good-answered-by (Some d) e =
+    good-answered : (x : Option Cell) → s .kept (c .input) ≡ x → Good b (answered b c x s)
+    good-answered None e = good-first e
+    good-answered (Some d) e =
         let yes : Finding =
         record { kept = keeping (c .input) c (s .kept); refused = refusing (c .input) (Some d) (s .refused); asks = suc (s .asks) } in
         let refuses : Finding =
@@ -248,12 +241,9 @@ module _ (n : ℕ) (b : Box) (placed : WellPlaced n b) (order : InOrder b) where
           | inr t ↦ subst (λ z. Good b (cond z yes refuses)) (sym t) (good-worse d e (ltb-false (ahead c w) (ahead d w) t))
         ]
 
-    good-answered : Good b (answered b c s)
-    good-answered = good-answered-by (s .kept (c .input)) refl
-
   good-asked : (s : Finding) (x : Option Cell) → nextAsk n n b s ≡ x → Good b s → Good b (asked b x s)
   good-asked s None e g = g
-  good-asked s (Some c) e g = good-answered s c (next-asked n b s c placed e) g
+  good-asked s (Some c) e g = good-answered s c (next-asked n b s c placed e) g (s .kept (c .input)) refl
 
   pub good-after : (k : ℕ) → Good b (afterAsks k n b)
   unfolding afterAsks

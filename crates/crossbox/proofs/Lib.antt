@@ -1,4 +1,5 @@
 pub mod Asking
+pub mod Asks
 pub mod Cells
 pub mod Choices
 pub mod Finding

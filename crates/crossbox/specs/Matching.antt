@@ -66,17 +66,17 @@ abbrev pub refusing : ℕ → Option Cell → (ℕ → ℕ → Bool) → ℕ →
 refusing i None refused j o = refused j o
 refusing i (Some d) refused j o = (eqb j i && eqb (d .output) o) || refused j o
 
--- a cell is asked for: its input keeps it and refuses what it kept, or refuses it
-abbrev pub answered : Box → Cell → Finding → Finding
-answered b c s =
-    cond (prefers b c (s .kept (c .input)))
-    (record { kept = keeping (c .input) c (s .kept); refused = refusing (c .input) (s .kept (c .input)) (s .refused); asks = suc (s .asks) })
+-- a cell is asked for, where its input keeps x: the input keeps the cell and refuses x, or refuses the cell
+abbrev pub answered : Box → Cell → Option Cell → Finding → Finding
+answered b c x s =
+    cond (prefers b c x)
+    (record { kept = keeping (c .input) c (s .kept); refused = refusing (c .input) x (s .refused); asks = suc (s .asks) })
     (record { kept = s .kept; refused = refusing (c .input) (Some c) (s .refused); asks = suc (s .asks) })
 
 -- a cell is asked for, if there is one
 abbrev pub asked : Box → Option Cell → Finding → Finding
 asked b None s = s
-asked b (Some c) s = answered b c s
+asked b (Some c) s = answered b c (s .kept (c .input)) s
 
 -- the finding after k asks, or when it has ended
 unfoldable pub afterAsks : ℕ → ℕ → Box → Finding
