@@ -7,6 +7,7 @@ pub mod Held
 pub mod Lists
 pub mod Machine
 pub mod Pairs
+pub mod Promise
 pub mod Runs
 pub mod Same
 pub mod Shape
