@@ -1,21 +1,21 @@
 -- How many asks there are: each takes one from the pairs that may still be asked for, so the finding ends.
 use mathlib.Core.Path.{_≡_, refl, ap, sym, _∙_, subst}
-use mathlib.Core.Bool.{Bool, true, false, cond, _&&_, _||_, not}
+use mathlib.Core.Bool.{Bool, true, false, cond, _&&_, not}
 use mathlib.Core.List.{List, [], _∷_}
 use mathlib.Core.Logic.{_⊎_, inl, inr}
 use Prim.Native.Nat.{ℕ, zero, suc, _+_, _<_, _≤_}
 use native.Mathlib.Nat.{suc-add, zero-add}
 use native.Mathlib.Omega.{arith}
-use lib.Dec.{eqb, ltb}
+use lib.Dec.{eqb}
 use Rattle.std.specs.declared.option.Option.{Option}
 use Rattle.std.specs.declared.option.Option.the-variants.{Some, None}
-use Rattle.std.proofs.shelf.Tests.{cases-bool, cases-eq, eqb-true, eq-eqb, and-parts}
+use Rattle.std.proofs.shelf.Tests.{cases-bool, cases-eq, eq-eqb, and-parts}
 use Rattle.std.proofs.shelf.Ways.{tells}
 use Rattle.crossbox.specs.declared.Cell.{Cell}
-use Rattle.crossbox.specs.Cells.{isIn, ahead}
+use Rattle.crossbox.specs.Cells.{isIn}
 use Rattle.crossbox.specs.Box.{Box, forOutput}
 use Rattle.crossbox.specs.Shape.{WellPlaced}
-use Rattle.crossbox.specs.Matching.{Finding, unasked, isFor, nextAsk, prefers, keeping, refusing, answered, asked, afterAsks, count, countPairs, some, waitsAt, pairs, Ended, FindingEnds, EndedStays, AsksAreFew}
+use Rattle.crossbox.specs.Matching.{Finding, unasked, isFor, nextAsk, prefers, keeping, refusing, answered, asked, afterAsks, count, countPairs, some, waitsAt, pairs, FindingEnds, EndedStays, AsksAreFew}
 use Rattle.crossbox.proofs.Lists.{isIn-forOutput}
 use Rattle.crossbox.proofs.Shape.{none-isIn}
 use Rattle.crossbox.proofs.Asking.{some-none, content-none, Asked, next-asked, next-ended, ended-next}

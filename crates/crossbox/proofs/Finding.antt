@@ -1,21 +1,20 @@
 -- What is found is a stable choice: what holds after every ask, and what follows at the end.
 use mathlib.Core.Path.{_≡_, refl, ap, sym, _∙_, subst}
-use mathlib.Core.Bool.{Bool, true, false, cond, _&&_, _||_, not}
+use mathlib.Core.Bool.{Bool, true, false, cond, _&&_}
 use mathlib.Core.List.{List, [], _∷_}
 use mathlib.Core.Logic.{_⊎_, inl, inr}
-use Prim.Native.Nat.{ℕ, zero, suc, _+_, _<_, _≤_}
+use Prim.Native.Nat.{ℕ, zero, suc, _<_, _≤_}
 use native.Mathlib.Omega.{arith}
 use lib.Dec.{eqb, ltb}
 use Rattle.std.specs.declared.option.Option.{Option}
 use Rattle.std.specs.declared.option.Option.the-variants.{Some, None}
-use Rattle.std.proofs.shelf.Tests.{cases-bool, cases-eq, or-cases, or-parts, and-parts, eqb-true, eq-eqb, eqb-false, ne-eqb, ltb-true, ltb-false, lt-ltb, both-ways}
-use Rattle.std.proofs.shelf.Ways.{tells}
+use Rattle.std.proofs.shelf.Tests.{cases-bool, cases-eq, or-cases, or-parts, and-parts, eqb-true, eq-eqb, ne-eqb, ltb-true, ltb-false, lt-ltb, both-ways}
 use Rattle.crossbox.specs.declared.Cell.{Cell}
 use Rattle.crossbox.specs.Cells.{earlier, same, isIn, ahead}
 use Rattle.crossbox.specs.Box.{Box, Stable, Reason, sharesNone, oneEach}
 use Rattle.crossbox.specs.Shape.{WellPlaced, InOrder}
-use Rattle.crossbox.specs.Matching.{Finding, unasked, content, isFor, unrefused, nextAsk, prefers, keeping, refusing, answered, asked, afterAsks, chosen, withKept, Ended}
-use Rattle.crossbox.proofs.Cells.{same-eq, same-refl, same-input, earlier-other}
+use Rattle.crossbox.specs.Matching.{Finding, unasked, isFor, unrefused, nextAsk, keeping, refusing, answered, asked, afterAsks, chosen, withKept, Ended}
+use Rattle.crossbox.proofs.Cells.{same-eq, same-refl, earlier-other}
 use Rattle.crossbox.proofs.Shape.{none-isIn}
 use Rattle.crossbox.proofs.Asking.{some-eq, some-none, isFor-some, content-some, content-none, isIn-unrefused, Asked, next-asked}
 

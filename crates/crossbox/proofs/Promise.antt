@@ -1,16 +1,10 @@
 -- There is always a stable choice, the one that is found; and with it the promise of the whole.
-use mathlib.Core.Path.{_≡_}
-use mathlib.Core.Bool.{true}
-use mathlib.Core.List.{List}
-use Prim.Native.Nat.{ℕ, suc, _<_}
+use Prim.Native.Nat.{ℕ, suc}
 use native.Mathlib.Omega.{arith}
 use lib.ListN.{length}
-use Rattle.crossbox.specs.declared.Cell.{Cell}
-use Rattle.crossbox.specs.Cells.{Arrivals, isIn}
-use Rattle.crossbox.specs.Ideal.{admitted, queue, rest}
-use Rattle.crossbox.specs.Box.{Box, Run, Stable, arrived, departed}
+use Rattle.crossbox.specs.Box.{Box, arrived, departed}
 use Rattle.crossbox.specs.Shape.{WellPlaced}
-use Rattle.crossbox.specs.Promise.{AllFit, Fits, Matched, MatchedAgain, Main}
+use Rattle.crossbox.specs.Promise.{Matched, MatchedAgain, Main}
 use Rattle.crossbox.specs.Matching.{afterAsks, pairs, find, FoundIsStable, FoundInRun, FoundInRunAgain}
 use Rattle.crossbox.proofs.Shape.{Placed, Directed, arriving-directed, transfer-directed}
 use Rattle.crossbox.proofs.Runs.{run-directed, arrived-like, departed-like, more-earlier, same-held-throughout, same-rejected, pairs-in-order, pairs-in-order-again, same-departures}

@@ -1,7 +1,7 @@
 -- How a stable choice is found: outputs ask for cells, and inputs keep or refuse. Assumes nothing.
 -- `n` is the number of inputs and of outputs, `b` the box, `s` what has been kept and refused so far.
 use mathlib.Core.Path.{_≡_}
-use mathlib.Core.Bool.{Bool, true, false, cond, _&&_, _||_, not}
+use mathlib.Core.Bool.{Bool, true, false, cond, _&&_, _||_}
 use mathlib.Core.List.{List, [], _∷_, _++_}
 use mathlib.Core.Logic.{_⊎_}
 use Prim.Native.Nat.{ℕ, zero, suc, _+_, _<_, _≤_}
