@@ -1,14 +1,14 @@
 -- Facts about one ask of the finding: who asks, and for which cell.
 use mathlib.Core.Path.{_≡_, refl, ap, sym, _∙_, subst}
-use mathlib.Core.Bool.{Bool, true, false, cond, _&&_, _||_, not}
-use mathlib.Core.List.{List, [], _∷_, _++_}
+use mathlib.Core.Bool.{true, false, cond, _&&_, _||_, not}
+use mathlib.Core.List.{List, [], _∷_}
 use mathlib.Core.Logic.{_⊎_, inl, inr}
-use Prim.Native.Nat.{ℕ, zero, suc, _+_, _<_, _≤_}
+use Prim.Native.Nat.{ℕ, zero, suc, _<_}
 use native.Mathlib.Omega.{arith}
 use lib.Dec.{eqb, ltb}
 use Rattle.std.specs.declared.option.Option.{Option}
 use Rattle.std.specs.declared.option.Option.the-variants.{Some, None}
-use Rattle.std.proofs.shelf.Tests.{cases-bool, cases-lt, or-cases, or-parts, or-from, and-parts, eqb-true, eq-eqb, lt-ltb, both-ways}
+use Rattle.std.proofs.shelf.Tests.{cases-bool, cases-lt, or-cases, or-parts, eqb-true, eq-eqb, lt-ltb}
 use Rattle.std.proofs.shelf.Ways.{tells}
 use Rattle.crossbox.specs.declared.Cell.{Cell}
 use Rattle.crossbox.specs.Cells.{earlier, same, isIn, earliest, sooner}

@@ -1,11 +1,8 @@
 -- Laws of `same` and `earlier`: one cell or two, and their order.
-use mathlib.Core.Path.{_≡_, refl, ap, sym, _∙_, subst}
-use mathlib.Core.Bool.{Bool, true, false, cond, _&&_, _||_, not}
-use mathlib.Core.Logic.{_⊎_, inl, inr}
-use Prim.Native.Nat.{ℕ, suc, _+_, _<_, _≤_}
+use mathlib.Core.Path.{_≡_, ap, _∙_}
+use mathlib.Core.Bool.{true, false}
+use Prim.Native.Nat.{ℕ, _<_}
 use native.Mathlib.Omega.{arith}
-use lib.Dec.{eqb, ltb}
-use Rattle.std.proofs.shelf.Tests.{eqb-true, and-parts}
 use Rattle.std.proofs.shelf.Ways.{tells}
 use Rattle.crossbox.specs.declared.Cell.{Cell}
 use Rattle.crossbox.specs.Cells.{earlier, same}

@@ -1,6 +1,6 @@
 -- Laws of a choice: no two of its cells have one output, so at most one goes to each store.
 use mathlib.Core.Path.{_≡_, refl, ap, sym, _∙_, subst}
-use mathlib.Core.Bool.{Bool, true, false, cond, _&&_, _||_, not}
+use mathlib.Core.Bool.{true, false, cond}
 use mathlib.Core.List.{List, [], _∷_}
 use mathlib.Core.Logic.{_⊎_, inl, inr}
 use Prim.Native.Nat.{ℕ}
@@ -11,7 +11,7 @@ use Rattle.std.proofs.shelf.Ways.{tells}
 use Rattle.crossbox.specs.declared.Cell.{Cell}
 use Rattle.crossbox.specs.Cells.{same, isIn}
 use Rattle.crossbox.specs.Box.{forOutput, sharesNone, oneEach}
-use Rattle.crossbox.proofs.Cells.{same-refl, same-sym, same-eq, same-output}
+use Rattle.crossbox.proofs.Cells.{same-refl, same-eq, same-output}
 
 pub shares-output : (c d : Cell) (l : List Cell) → sharesNone c l ≡ true → isIn d l ≡ true → eqb (c .output) (d .output) ≡ false
 unfolding sharesNone isIn

@@ -1,22 +1,22 @@
 -- How many cells the box holds for an output, through the steps of a slot, and how long the ideal queue is.
 use mathlib.Core.Path.{_≡_, refl, ap, sym, _∙_, subst}
-use mathlib.Core.Bool.{Bool, true, false, cond, _&&_, _||_, not}
-use mathlib.Core.List.{List, [], _∷_, _++_}
+use mathlib.Core.Bool.{Bool, true, false, cond, _&&_}
+use mathlib.Core.List.{List, [], _∷_}
 use mathlib.Core.Logic.{_⊎_, inl, inr}
-use Prim.Native.Nat.{ℕ, zero, suc, _+_, _<_, _≤_}
+use Prim.Native.Nat.{ℕ, zero, suc, _+_, _≤_}
 use native.Mathlib.Omega.{arith}
 use lib.Dec.{eqb, ltb}
 use lib.ListN.{length, length-append}
-use Rattle.std.proofs.shelf.Tests.{cases-bool, cases-lt, eqb-true, eq-eqb, ne-eqb, lt-ltb, le-ltb, both-ways}
+use Rattle.std.proofs.shelf.Tests.{cases-bool, cases-lt, eqb-true, eq-eqb, lt-ltb, le-ltb, both-ways}
 use Rattle.std.proofs.shelf.Ways.{tells}
 use Rattle.crossbox.specs.declared.Arrival.{Arrival}
 use Rattle.crossbox.specs.declared.Arrival.the-variants.{Nothing, For}
 use Rattle.crossbox.specs.declared.Cell.{Cell}
-use Rattle.crossbox.specs.Cells.{Arrivals, same, isIn, ahead, countEarlier, earliest}
+use Rattle.crossbox.specs.Cells.{Arrivals, same, isIn}
 use Rattle.crossbox.specs.Ideal.{admit, admitted, cellsFor, rest, queue}
 use Rattle.crossbox.specs.Box.{Box, Stable, putAt, taken, takenFor, oneIf, roomFor, arriving, transfer, depart, withoutAll, slipAll, forOutput, heldFor, oneEach}
 use Rattle.crossbox.specs.Slack.{Slack}
-use Rattle.crossbox.proofs.Cells.{same-eq, same-sym, same-refl, same-output}
+use Rattle.crossbox.proofs.Cells.{same-output}
 use Rattle.crossbox.proofs.Lists.{isIn-same, isIn-forOutput, distinct, none-in, count-le}
 use Rattle.crossbox.proofs.Stores.{length-slip, depart-drops}
 use Rattle.crossbox.proofs.Choices.{one-output, at-most-one}

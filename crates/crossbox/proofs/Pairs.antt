@@ -1,9 +1,9 @@
 -- Of two waiting cells of one pair the earlier stands first: each step of a slot keeps that.
 use mathlib.Core.Path.{_≡_, refl, ap, sym, _∙_, subst}
-use mathlib.Core.Bool.{Bool, true, false, cond, _&&_, _||_, not}
+use mathlib.Core.Bool.{Bool, true, false, cond, _&&_}
 use mathlib.Core.List.{List, [], _∷_}
-use mathlib.Core.Logic.{_⊎_, inl, inr}
-use Prim.Native.Nat.{ℕ, zero, suc, _+_, _<_, _≤_}
+use mathlib.Core.Logic.{inl, inr}
+use Prim.Native.Nat.{ℕ, zero, suc, _<_}
 use native.Mathlib.Omega.{arith}
 use lib.Dec.{ltb}
 use lib.ListN.{length}
@@ -11,11 +11,11 @@ use Rattle.std.proofs.shelf.Tests.{or-cases, both-ways}
 use Rattle.crossbox.specs.declared.Arrival.{Arrival}
 use Rattle.crossbox.specs.declared.Arrival.the-variants.{Nothing, For}
 use Rattle.crossbox.specs.declared.Cell.{Cell}
-use Rattle.crossbox.specs.Cells.{Arrivals, earlier, same, isIn, ahead, countEarlier}
+use Rattle.crossbox.specs.Cells.{Arrivals, earlier, same, isIn, ahead}
 use Rattle.crossbox.specs.Box.{Box, putAt, taken, roomFor, arriving, transfer, withoutAll}
 use Rattle.crossbox.specs.Shape.{InOrder}
 use Rattle.crossbox.specs.Slack.{Slack}
-use Rattle.crossbox.proofs.Cells.{same-eq, same-sym, same-output, same-slot, earlier-not, earlier-slot, earlier-differs}
+use Rattle.crossbox.proofs.Cells.{same-eq, same-output, same-slot, earlier-not, earlier-slot, earlier-differs}
 use Rattle.crossbox.proofs.Lists.{isIn-same, isIn-putAt, isIn-other, count-le}
 use Rattle.crossbox.proofs.Shape.{Placed, new-waits-not}
 use Rattle.crossbox.proofs.Slack.{stayed}

@@ -1,25 +1,24 @@
 -- The box has the cells of the ideal queue, and the first of the queue is the earliest in the store.
 use mathlib.Core.Path.{_≡_, refl, ap, sym, _∙_, subst}
-use mathlib.Core.Bool.{Bool, true, false, cond, _&&_, _||_, not}
+use mathlib.Core.Bool.{Bool, true, false, cond, _&&_, _||_}
 use mathlib.Core.List.{List, [], _∷_, _++_, append-nil}
 use mathlib.Core.Logic.{_⊎_, inl, inr}
-use Prim.Native.Nat.{ℕ, zero, suc, _+_, _<_, _≤_}
+use Prim.Native.Nat.{ℕ, zero, suc, _+_, _<_}
 use native.Mathlib.Omega.{arith}
 use lib.Dec.{eqb, ltb}
 use lib.ListN.{length}
-use Rattle.std.specs.declared.option.Option.{Option}
-use Rattle.std.specs.declared.option.Option.the-variants.{Some, None}
-use Rattle.std.proofs.shelf.Tests.{cases-bool, or-cases, or-left, and-parts, eqb-true, ltb-true, both-ways}
+use Rattle.std.specs.declared.option.Option.the-variants.{Some}
+use Rattle.std.proofs.shelf.Tests.{cases-bool, or-cases, or-left, and-parts, eqb-true}
 use Rattle.std.proofs.shelf.Ways.{tells}
 use Rattle.crossbox.specs.declared.Arrival.{Arrival}
 use Rattle.crossbox.specs.declared.Arrival.the-variants.{Nothing, For}
 use Rattle.crossbox.specs.declared.Cell.{Cell}
-use Rattle.crossbox.specs.Cells.{Arrivals, earlier, same, isIn, ahead, countEarlier, earliest}
+use Rattle.crossbox.specs.Cells.{Arrivals, earlier, same, isIn}
 use Rattle.crossbox.specs.Ideal.{admit, admitted, cellsFor, first, rest}
-use Rattle.crossbox.specs.Box.{Box, Stable, putAt, taken, takenFor, roomFor, arriving, transfer, depart, departs, withoutAll, heldFor}
+use Rattle.crossbox.specs.Box.{Box, Stable, taken, takenFor, roomFor, arriving, transfer, depart, departs, heldFor}
 use Rattle.crossbox.specs.Shape.{leads, rises}
 use Rattle.crossbox.specs.Slack.{Slack}
-use Rattle.crossbox.proofs.Cells.{same-eq, same-refl, same-sym, same-output, same-input, same-slot, earlier-not, earlier-slot, earlier-differs}
+use Rattle.crossbox.proofs.Cells.{same-eq, same-refl, same-sym, same-output, same-input, same-slot, earlier-not, earlier-differs}
 use Rattle.crossbox.proofs.Lists.{isIn-append, isIn-putAt, isIn-withoutAll, count-some}
 use Rattle.crossbox.proofs.Stores.{leads-in, earliest-first, depart-drops, isIn-behind}
 use Rattle.crossbox.proofs.Shape.{Placed, none-isIn, went}

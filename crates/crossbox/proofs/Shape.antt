@@ -1,9 +1,9 @@
 -- The shape of a box, and that each step of a slot keeps it.
 use mathlib.Core.Path.{_≡_, refl, ap, sym, _∙_, subst}
-use mathlib.Core.Bool.{Bool, true, false, cond, _&&_, _||_, not}
+use mathlib.Core.Bool.{Bool, true, false, cond, _&&_, _||_}
 use mathlib.Core.List.{List, [], _∷_}
 use mathlib.Core.Logic.{_⊎_, inl, inr}
-use Prim.Native.Nat.{ℕ, zero, suc, _+_, _<_, _≤_}
+use Prim.Native.Nat.{ℕ, suc, _<_, _≤_}
 use native.Mathlib.Omega.{arith}
 use lib.Dec.{eqb, ltb}
 use lib.ListN.{length}
@@ -11,13 +11,13 @@ use Rattle.std.proofs.shelf.Tests.{cases-bool, or-cases, and-parts, ltb-true, e
 use Rattle.crossbox.specs.declared.Arrival.{Arrival}
 use Rattle.crossbox.specs.declared.Arrival.the-variants.{Nothing, For}
 use Rattle.crossbox.specs.declared.Cell.{Cell}
-use Rattle.crossbox.specs.Cells.{Arrivals, same, isIn, earliest}
+use Rattle.crossbox.specs.Cells.{Arrivals, same, isIn}
 use Rattle.crossbox.specs.Ideal.{rest}
-use Rattle.crossbox.specs.Box.{Box, Stable, empty, putAt, taken, arriving, roomFor, transfer, depart, withoutAll, slipAll, forOutput, less}
-use Rattle.crossbox.specs.Shape.{Rising, StoredBefore, WellPlaced, rises}
+use Rattle.crossbox.specs.Box.{Box, Stable, empty, taken, arriving, roomFor, transfer, depart, slipAll, forOutput}
+use Rattle.crossbox.specs.Shape.{Rising, rises}
 use Rattle.crossbox.specs.Promise.{Fits}
-use Rattle.crossbox.proofs.Cells.{same-eq, same-refl}
-use Rattle.crossbox.proofs.Lists.{isIn-putAt, isIn-forOutput, isIn-withoutAll, distinct, distinct-putAt, distinct-withoutAll}
+use Rattle.crossbox.proofs.Cells.{same-eq}
+use Rattle.crossbox.proofs.Lists.{isIn-putAt, isIn-forOutput, distinct, distinct-putAt, distinct-withoutAll}
 use Rattle.crossbox.proofs.Stores.{isIn-slipAll, depart-drops, rises-slip, rises-rest}
 use Rattle.crossbox.proofs.Choices.{at-most-one}
 use Rattle.crossbox.proofs.Slack.{stayed}

@@ -1,20 +1,19 @@
 -- What each step of a slot does to the slack.
-use mathlib.Core.Path.{_≡_, refl, ap, sym, _∙_, subst}
-use mathlib.Core.Bool.{Bool, true, false, cond, _&&_, _||_, not}
-use mathlib.Core.List.{List, [], _∷_}
-use mathlib.Core.Logic.{_⊎_, inl, inr}
-use Prim.Native.Nat.{ℕ, zero, suc, _+_, _<_, _≤_}
+use mathlib.Core.Path.{_≡_, ap, sym, _∙_, subst}
+use mathlib.Core.Bool.{Bool, true, false, cond, _&&_}
+use mathlib.Core.List.{List}
+use mathlib.Core.Logic.{inl, inr}
+use Prim.Native.Nat.{ℕ, _≤_}
 use native.Mathlib.Omega.{arith}
 use lib.Dec.{eqb, ltb}
 use lib.ListN.{length}
-use Rattle.std.proofs.shelf.Tests.{cases-bool, eq-eqb, or-cases, and-parts, not-true, both-ways, and-from}
+use Rattle.std.proofs.shelf.Tests.{eq-eqb, or-cases, both-ways, and-from}
 use Rattle.crossbox.specs.declared.Arrival.{Arrival}
 use Rattle.crossbox.specs.declared.Arrival.the-variants.{Nothing, For}
 use Rattle.crossbox.specs.declared.Cell.{Cell}
-use Rattle.crossbox.specs.Cells.{Arrivals, earlier, same, isIn, ahead, countEarlier, earliest}
-use Rattle.crossbox.specs.Ideal.{rest}
-use Rattle.crossbox.specs.Box.{Box, Stable, Reason, putAt, taken, arrive, arriving, roomFor, transfer, depart, withoutAll, slipAll, forOutput, less}
-use Rattle.crossbox.specs.Shape.{Rising, StoredBefore}
+use Rattle.crossbox.specs.Cells.{Arrivals, same, isIn, ahead, countEarlier}
+use Rattle.crossbox.specs.Box.{Box, putAt, taken, arriving, roomFor, withoutAll, forOutput, less}
+use Rattle.crossbox.specs.Shape.{StoredBefore}
 use Rattle.crossbox.specs.Slack.{Slack, ArriveSlack, TransferSlack, DepartSlack}
 use Rattle.crossbox.proofs.Cells.{same-eq, earlier-slot}
 use Rattle.crossbox.proofs.Lists.{isIn-putAt, isIn-forOutput, isIn-withoutAll, ahead-putAt-self, ahead-putAt, ahead-withoutAll, ahead-withoutAll-less, count-all}

@@ -1,18 +1,17 @@
 -- Laws of stores: what slips into one, and that one that rises has its earliest cell first.
-use mathlib.Core.Path.{_≡_, refl, ap, sym, _∙_, subst}
-use mathlib.Core.Bool.{Bool, true, false, cond, _&&_, _||_, not}
+use mathlib.Core.Path.{_≡_, refl, ap, _∙_}
+use mathlib.Core.Bool.{true, false, cond, _&&_, _||_, not}
 use mathlib.Core.List.{List, [], _∷_}
-use Prim.Native.Nat.{ℕ, zero, suc, _+_, _<_, _≤_}
+use Prim.Native.Nat.{suc, _<_, _≤_}
 use native.Mathlib.Omega.{arith}
 use lib.ListN.{length}
-use Rattle.std.specs.declared.option.Option.{Option}
-use Rattle.std.specs.declared.option.Option.the-variants.{Some, None}
+use Rattle.std.specs.declared.option.Option.the-variants.{Some}
 use Rattle.crossbox.specs.declared.Cell.{Cell}
 use Rattle.crossbox.specs.Cells.{earlier, same, isIn, without, countEarlier, earliest, sooner}
 use Rattle.crossbox.specs.Ideal.{first, rest}
 use Rattle.crossbox.specs.Box.{slip, slipAll, less}
 use Rattle.crossbox.specs.Shape.{leads, rises, EarliestIsFirst, DepartDropsFirst}
-use Rattle.crossbox.proofs.Cells.{same-eq, same-refl, same-sym, earlier-self, earlier-trans, earlier-other}
+use Rattle.crossbox.proofs.Cells.{same-eq, same-refl, earlier-self, earlier-trans, earlier-other}
 use Rattle.crossbox.proofs.Lists.{isIn-same}
 
 pub isIn-slip : (c e : Cell) (l : List Cell) → isIn c (slip e l) ≡ (same c e || isIn c l)

@@ -1,7 +1,7 @@
 -- The real box: cells wait at inputs, in an order of their own, and are transferred to stores at outputs twice a slot. Assumes nothing.
 -- `room` is how many cells the box holds for an output, `n` the number of inputs and of outputs, `t` the slot, `past` the slots so far.
 use mathlib.Core.Path.{_≡_}
-use mathlib.Core.Bool.{Bool, true, false, cond, _&&_, not}
+use mathlib.Core.Bool.{Bool, true, cond, _&&_, not}
 use mathlib.Core.List.{List, [], _∷_}
 use mathlib.Core.Logic.{_⊎_}
 use Prim.Native.Nat.{ℕ, zero, suc, _+_, _<_}
