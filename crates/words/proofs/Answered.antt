@@ -12,6 +12,9 @@ use Rattle.std.specs.declared.option.Option.the-variants.{Some, None}
 use Rattle.std.proofs.shelf.Lists.{append-assoc, append-nil, length-append, take-at, drop-at}
 use Rattle.std.proofs.shelf.Tests.{ne-eqb, le-ltb}
 use Rattle.crossbox.specs.declared.Cell.{Cell}
+use Rattle.words.proofs.Overwrites.{written-then}
+use Rattle.words.specs.Numbers.{answerKind}
+use Rattle.words.specs.Writing.{overwrite}
 use Rattle.words.specs.Answer.{Departure, leaving, leavingAll, flagBytes, answerBytes, readDeparture, departureBefore, departureThen, readDepartures, flagBefore, readFlags, beside, flagsBehind, readAnswer, Leaves, AllLeave, AnswerIsRead}
 
 -- one more departure behind the others
@@ -45,6 +48,42 @@ leaving-all-length o (d ∷ ds) h =
     let more = leaving-all-length (suc o) ds (h .1) in
     let both = length-append (leaving d) (leavingAll ds) in
     omega arith
+
+-- an answer in the making: its kind, then departure after departure, then flag after flag
+pub answer-begins : answerBytes [] [] ≡ answerKind ∷ []
+unfolding leavingAll flagBytes
+answer-begins = refl
+
+pub answer-departure : (ds : List Departure) (d : Departure) (next : ℕ) (start between last : List ℕ) →
+    between ≡ overwrite 0 (answerBytes ds []) start → last ≡ overwrite next (leaving d) between →
+    next ≡ length (answerBytes ds []) → last ≡ overwrite 0 (answerBytes (ds ++ (d ∷ [])) []) start
+unfolding flagBytes
+answer-departure ds d next start between last p q e =
+    let tight = append-nil (leavingAll ds) in
+    let whole = append-nil (leavingAll (ds ++ (d ∷ []))) in
+    let f : next ≡ 0 + length (3 ∷ (leavingAll ds ++ [])) = omega arith in
+    written-then 0 next (3 ∷ (leavingAll ds ++ [])) (leaving d) start between last p q f (omega arith)
+    ∙ ap (λ (xs : List ℕ). overwrite 0 (3 ∷ xs) start)
+    (ap (λ (xs : List ℕ). xs ++ leaving d) tight ∙ sym (leaving-push ds d) ∙ sym whole)
+
+pub answer-flag : (ds : List Departure) (flags : List Bool) (away : Bool) (next : ℕ) (start between last : List ℕ) →
+    between ≡ overwrite 0 (answerBytes ds flags) start → last ≡ overwrite next (cond away 1 0 ∷ []) between →
+    next ≡ length (answerBytes ds flags) → last ≡ overwrite 0 (answerBytes ds (flags ++ (away ∷ []))) start
+answer-flag ds flags away next start between last p q e =
+    let f : next ≡ 0 + length (answerBytes ds flags) = omega arith in
+    written-then 0 next (answerBytes ds flags) (cond away 1 0 ∷ []) start between last p q f (omega arith)
+    ∙ ap (λ (xs : List ℕ). overwrite 0 (3 ∷ xs) start)
+    (append-assoc (leavingAll ds) (flagBytes flags) (cond away 1 0 ∷ [])
+    ∙ ap (λ (xs : List ℕ). leavingAll ds ++ xs) (sym (flags-push flags away)))
+
+-- an answer's length: one more with each flag, at most 69 more with each departure
+pub answer-length : (ds : List Departure) (flags : List Bool) →
+    length (answerBytes ds flags) ≡ 1 + length (leavingAll ds) + length flags
+answer-length ds flags = omega (arith, length-append (leavingAll ds) (flagBytes flags), flags-length flags)
+
+pub answer-room : (ds : List Departure) (flags : List Bool) → AllLeave 0 ds →
+    length (answerBytes ds flags) ≤ 1 + 69 * length ds + length flags
+answer-room ds flags h = omega (arith, answer-length ds flags, leaving-all-length 0 ds h)
 
 -- digits of base 256, put together again
 digits : (x a b c : ℕ) (p q r s : ℕ) → p ≡ c % 256 → q ≡ b % 256 → r ≡ a % 256 → s ≡ x % 256 →
