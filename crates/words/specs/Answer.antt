@@ -9,7 +9,7 @@ use Rattle.std.specs.declared.option.Option.{Option}
 use Rattle.std.specs.declared.option.Option.the-variants.{Some, None}
 use Rattle.crossbox.specs.declared.Cell.{Cell}
 use Rattle.words.specs.Numbers.{bodyBytes, noCell, answerKind}
-use Rattle.words.specs.Writing.{idle, departureBytes}
+use Rattle.words.specs.Writing.{overwrite, idle, departureBytes}
 
 -- what leaves by one output: a cell with what it carries, or none
 abbrev pub Departure : Type 0
@@ -33,6 +33,11 @@ flagBytes (away ∷ flags) = cond away 1 0 ∷ flagBytes flags
 -- a slot's answer: its kind, what leaves by each output, and which inputs' cells were turned away
 abbrev pub answerBytes : List Departure → List Bool → List ℕ
 answerBytes ds flags = answerKind ∷ (leavingAll ds ++ flagBytes flags)
+
+-- a buffer that was `start` now begins with this answer, and `at` is the place behind it
+pub record Written (start out : List ℕ) (at : ℕ) (ds : List Departure) (flags : List Bool) : Type 0 where
+  pub bytes : out ≡ overwrite 0 (answerBytes ds flags) start
+  pub next : at ≡ length (answerBytes ds flags)
 
 -- the number that four bytes give, high byte first
 abbrev pub fromBigEndian4 : List ℕ → ℕ
