@@ -6,13 +6,16 @@ use Prim.Native.Nat.{ℕ, suc, _+_, _*_, _/_, _%_, _^_, _<_, _≤_}
 use native.Mathlib.Nat.{div-div-eq-div-mul}
 use native.Mathlib.Omega.{arith}
 use lib.Dec.{eqb}
-use lib.ListN.{length}
+use lib.ListN.{length, take, drop}
 use Rattle.std.specs.declared.option.Option.{Option}
 use Rattle.std.specs.declared.option.Option.the-variants.{Some, None}
 use Rattle.std.proofs.shelf.Lists.{append-assoc, append-nil, length-append, take-at, drop-at}
 use Rattle.std.proofs.shelf.Tests.{ne-eqb, le-ltb}
 use Rattle.crossbox.specs.declared.Cell.{Cell}
-use Rattle.words.specs.Answer.{Departure, leaving, leavingAll, flagBytes, answerBytes, readDeparture, departureBefore, departureThen, readDepartures, flagBefore, readFlags, beside, flagsBehind, readAnswer, Leaves, AllLeave, AnswerIsRead}
+use Rattle.words.proofs.Overwrites.{written-then, overwrite-front, overwrite-behind}
+use Rattle.words.specs.Numbers.{answerKind}
+use Rattle.words.specs.Writing.{overwrite}
+use Rattle.words.specs.Answer.{Departure, Written, leaving, leavingAll, flagBytes, answerBytes, readDeparture, departureBefore, departureThen, readDepartures, flagBefore, readFlags, beside, flagsBehind, readAnswer, Leaves, AllLeave, AnswerIsRead}
 
 -- one more departure behind the others
 pub leaving-push : (ds : List Departure) (d : Departure) → leavingAll (ds ++ (d ∷ [])) ≡ leavingAll ds ++ leaving d
@@ -45,6 +48,76 @@ leaving-all-length o (d ∷ ds) h =
     let more = leaving-all-length (suc o) ds (h .1) in
     let both = length-append (leaving d) (leavingAll ds) in
     omega arith
+
+-- an answer in the making: its kind, then departure after departure, then flag after flag
+pub answer-begins : (start out : List ℕ) (at : ℕ) →
+    out ≡ overwrite 0 (answerKind ∷ []) start → at ≡ 0 + 1 → Written start out at [] []
+unfolding leavingAll flagBytes
+answer-begins start out at p e = record { bytes = p; next = e }
+
+no-flags : (ds : List Departure) → answerBytes ds [] ≡ answerKind ∷ leavingAll ds
+unfolding flagBytes
+no-flags ds = ap (λ (xs : List ℕ). answerKind ∷ xs) (append-nil (leavingAll ds))
+
+one-departure : (ds : List Departure) (d : Departure) → answerBytes ds [] ++ leaving d ≡ answerBytes (ds ++ (d ∷ [])) []
+one-departure ds d =
+    ap (λ (xs : List ℕ). xs ++ leaving d) (no-flags ds)
+    ∙ ap (λ (xs : List ℕ). answerKind ∷ xs) (sym (leaving-push ds d))
+    ∙ sym (no-flags (ds ++ (d ∷ [])))
+
+one-flag : (ds : List Departure) (flags : List Bool) (away : Bool) →
+    answerBytes ds flags ++ (cond away 1 0 ∷ []) ≡ answerBytes ds (flags ++ (away ∷ []))
+one-flag ds flags away =
+    ap (λ (xs : List ℕ). answerKind ∷ xs)
+    (append-assoc (leavingAll ds) (flagBytes flags) (cond away 1 0 ∷ [])
+    ∙ ap (λ (xs : List ℕ). leavingAll ds ++ xs) (sym (flags-push flags away)))
+
+module _ (start out last : List ℕ) (at next : ℕ) where
+  written-more : (a b whole : List ℕ) → out ≡ overwrite 0 a start → at ≡ length a →
+      last ≡ overwrite at b out → next ≡ at + length b → a ++ b ≡ whole →
+      (last ≡ overwrite 0 whole start) × (next ≡ length whole)
+  written-more a b whole p e q f w =
+      let z : at ≡ 0 + length a = omega arith in (
+        written-then 0 at a b start out last p q z (omega arith) ∙ ap (λ (xs : List ℕ). overwrite 0 xs start) w,
+        omega (arith, length-append a b, ap (λ (xs : List ℕ). length xs) w),
+      )
+
+  pub answer-departure : (ds : List Departure) (d : Departure) → Written start out at ds [] →
+      last ≡ overwrite at (leaving d) out → next ≡ at + length (leaving d) → Written start last next (ds ++ (d ∷ [])) []
+  answer-departure ds d w q f =
+      let m = written-more (answerBytes ds []) (leaving d) (answerBytes (ds ++ (d ∷ [])) []) (w .bytes) (w .next) q f (one-departure ds d) in
+      record { bytes = m .0; next = m .1 }
+
+  pub answer-flag : (ds : List Departure) (flags : List Bool) (away : Bool) → Written start out at ds flags →
+      last ≡ overwrite at (cond away 1 0 ∷ []) out → next ≡ at + 1 → Written start last next ds (flags ++ (away ∷ []))
+  answer-flag ds flags away w q f =
+      let m = written-more (answerBytes ds flags) (cond away 1 0 ∷ []) (answerBytes ds (flags ++ (away ∷ []))) (w .bytes) (w .next) q f (one-flag ds flags away) in
+      record { bytes = m .0; next = m .1 }
+
+-- what a buffer then begins with, and what stands behind it
+pub answer-front : (start out : List ℕ) (at : ℕ) (ds : List Departure) (flags : List Bool) →
+    Written start out at ds flags → take at out ≡ answerBytes ds flags
+answer-front start out at ds flags w =
+    ap (λ (k : ℕ). take k out) (w .next)
+    ∙ ap (λ (xs : List ℕ). take (length (answerBytes ds flags)) xs) (w .bytes)
+    ∙ overwrite-front (answerBytes ds flags) start
+
+pub answer-behind : (start out : List ℕ) (at : ℕ) (ds : List Departure) (flags : List Bool) →
+    Written start out at ds flags → drop at out ≡ drop at start
+answer-behind start out at ds flags w =
+    ap (λ (k : ℕ). drop k out) (w .next)
+    ∙ ap (λ (xs : List ℕ). drop (length (answerBytes ds flags)) xs) (w .bytes)
+    ∙ overwrite-behind (answerBytes ds flags) start
+    ∙ ap (λ (k : ℕ). drop k start) (sym (w .next))
+
+-- an answer's length: one more with each flag, at most 69 more with each departure
+pub answer-length : (ds : List Departure) (flags : List Bool) →
+    length (answerBytes ds flags) ≡ 1 + length (leavingAll ds) + length flags
+answer-length ds flags = omega (arith, length-append (leavingAll ds) (flagBytes flags), flags-length flags)
+
+pub answer-room : (ds : List Departure) (flags : List Bool) → AllLeave 0 ds →
+    length (answerBytes ds flags) ≤ 1 + 69 * length ds + length flags
+answer-room ds flags h = omega (arith, answer-length ds flags, leaving-all-length 0 ds h)
 
 -- digits of base 256, put together again
 digits : (x a b c : ℕ) (p q r s : ℕ) → p ≡ c % 256 → q ≡ b % 256 → r ≡ a % 256 → s ≡ x % 256 →

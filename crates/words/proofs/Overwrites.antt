@@ -2,12 +2,13 @@
 use mathlib.Core.Path.{_≡_, refl, sym, ap, _∙_}
 use mathlib.Core.List.{List, [], _∷_, _++_}
 use Prim.Native.Nat.{ℕ, _+_, _-_, _≤_}
+use native.Mathlib.Nat.{add-zero, zero-add}
 use native.Mathlib.Omega.{arith}
 use lib.ListN.{length, take, drop, set}
 use lib.Lanes.{putChunk}
 use lib.Seq.{paste}
 use borrow.Rule.Slice.PartMut.{putMid}
-use Rattle.std.proofs.shelf.Lists.{append-assoc, length-append, length-take-le, length-drop}
+use Rattle.std.proofs.shelf.Lists.{take-append-drop, take-at, drop-at, append-assoc, length-append, length-take-le, length-drop}
 use Rattle.std.proofs.shelf.Edits.{paste-paste, paste-all, sets-eq}
 use Rattle.std.proofs.shelf.Parts.{putMid-paste}
 use Rattle.crossbox.specs.declared.Cell.{Cell}
@@ -44,6 +45,20 @@ pub written-then : (at next : ℕ) (a b start between last : List ℕ) →
     last ≡ overwrite at (a ++ b) start
 written-then at next a b start between last p q e h =
     q ∙ ap (λ (z : List ℕ). overwrite next b z) p ∙ overwrite-then at next a b start e h
+
+pub overwrite-none : (at : ℕ) (out : List ℕ) → overwrite at [] out ≡ out
+unfolding overwrite
+overwrite-none at out = ap (λ (k : ℕ). take at out ++ drop k out) (add-zero at) ∙ take-append-drop at out
+
+-- what was written from the start on, and what stands behind it
+pub overwrite-front : (bytes out : List ℕ) → take (length bytes) (overwrite 0 bytes out) ≡ bytes
+unfolding overwrite
+overwrite-front bytes out = take-at bytes (drop (0 + length bytes) out) (length bytes) refl
+
+pub overwrite-behind : (bytes out : List ℕ) → drop (length bytes) (overwrite 0 bytes out) ≡ drop (length bytes) out
+unfolding overwrite
+overwrite-behind bytes out =
+    drop-at bytes (drop (0 + length bytes) out) (length bytes) refl ∙ ap (λ (k : ℕ). drop k out) (zero-add (length bytes))
 
 -- one byte, as an assignment leaves it
 pub overwrite-byte : (at b : ℕ) (out : List ℕ) → at + 1 ≤ length out → set out at b ≡ overwrite at (b ∷ []) out

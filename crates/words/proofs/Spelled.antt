@@ -69,6 +69,39 @@ entry-read size (b ∷ bytes) l rest ls e s = go (eqb b 255) refl e
         (nothing (subst (λ (xs : List ℕ). Spells size ls xs) (sym er) s)))
     go false p e = cut (ltb (length bytes) size) refl (eqb-false b 255 p) e
 
+-- an entry that was read has a body of the size that was asked for, and its output is not 255
+pub entry-formed : (size : ℕ) (bytes : List ℕ) (l : Line) (rest : List ℕ) →
+    Some (l, rest) ≡ readEntry size bytes → Formed size (l .arrival) (l .body)
+unfolding readEntry
+entry-formed size [] l rest e = absurd (let z : _≡_ {A = ℕ} 0 1 = cc in omega arith)
+entry-formed size (b ∷ bytes) l rest e = go (eqb b 255) refl e
+  where
+    line : (x : Line) (xs : List ℕ) → _≡_ {A = Option (Line × List ℕ)} (Some (l, rest)) (Some (x, xs)) →
+        Formed size (x .arrival) (x .body) → Formed size (l .arrival) (l .body)
+    line x xs e f =
+        let pair : _≡_ {A = Line × List ℕ} (x, xs) (l, rest) = cc in
+        subst (λ (y : Line). Formed size (y .arrival) (y .body)) (ap (λ (y : Line × List ℕ). y .0) pair) f
+
+    cut : (t : Bool) → ltb (length bytes) size ≡ t → (b ≡ 255 → ⊥) →
+        Some (l, rest) ≡ cond {A = Option (Line × List ℕ)} t None (Some (record { arrival = For b; body = take size bytes }, drop size bytes)) →
+        Formed size (l .arrival) (l .body)
+    cut true p ne e = absurd (let z : _≡_ {A = ℕ} 0 1 = cc in omega arith)
+    cut false p ne e =
+        line (record { arrival = For b; body = take size bytes }) (drop size bytes) e
+        (ne, length-take-le size bytes (ltb-false (length bytes) size p))
+
+    go : (t : Bool) → eqb b 255 ≡ t →
+        Some (l, rest) ≡ cond {A = Option (Line × List ℕ)} t (Some (record { arrival = Nothing; body = [] }, bytes))
+        (cond {A = Option (Line × List ℕ)} (ltb (length bytes) size) None (Some (record { arrival = For b; body = take size bytes }, drop size bytes))) →
+        Formed size (l .arrival) (l .body)
+    go true p e = line (record { arrival = Nothing; body = [] }) bytes e refl
+    go false p e = cut (ltb (length bytes) size) refl (eqb-false b 255 p) e
+
+-- so the body of a cell is as long as was asked for
+pub entry-body : (size : ℕ) (bytes : List ℕ) (l : Line) (rest : List ℕ) (o : ℕ) →
+    Some (l, rest) ≡ readEntry size bytes → l .arrival ≡ For o → length (l .body) ≡ size
+entry-body size bytes l rest o e a = subst (λ (x : Arrival). Formed size x (l .body)) a (entry-formed size bytes l rest e) .1
+
 module _ (size k : ℕ)
     (more : (bytes : List ℕ) (ls : List Line) → readLines size k bytes ≡ Some ls → Spells size ls bytes × (length ls ≡ k)) where
   read-rest : (bytes : List ℕ) (ls : List Line) (l : Line) (rest : List ℕ) (o : Option (List Line)) →

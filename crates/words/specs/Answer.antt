@@ -8,7 +8,8 @@ use lib.ListN.{length, getD, take, drop}
 use Rattle.std.specs.declared.option.Option.{Option}
 use Rattle.std.specs.declared.option.Option.the-variants.{Some, None}
 use Rattle.crossbox.specs.declared.Cell.{Cell}
-use Rattle.words.specs.Writing.{idle, departureBytes}
+use Rattle.words.specs.Numbers.{bodyBytes, noCell, answerKind}
+use Rattle.words.specs.Writing.{overwrite, idle, departureBytes}
 
 -- what leaves by one output: a cell with what it carries, or none
 abbrev pub Departure : Type 0
@@ -31,7 +32,12 @@ flagBytes (away ∷ flags) = cond away 1 0 ∷ flagBytes flags
 
 -- a slot's answer: its kind, what leaves by each output, and which inputs' cells were turned away
 abbrev pub answerBytes : List Departure → List Bool → List ℕ
-answerBytes ds flags = 3 ∷ (leavingAll ds ++ flagBytes flags)
+answerBytes ds flags = answerKind ∷ (leavingAll ds ++ flagBytes flags)
+
+-- a buffer that was `start` now begins with this answer, and `at` is the place behind it
+pub record Written (start out : List ℕ) (at : ℕ) (ds : List Departure) (flags : List Bool) : Type 0 where
+  pub bytes : out ≡ overwrite 0 (answerBytes ds flags) start
+  pub next : at ≡ length (answerBytes ds flags)
 
 -- the number that four bytes give, high byte first
 abbrev pub fromBigEndian4 : List ℕ → ℕ
@@ -41,9 +47,9 @@ fromBigEndian4 bytes = getD bytes 0 0 * 16777216 + getD bytes 1 0 * 65536 + getD
 unfoldable pub readDeparture : ℕ → List ℕ → Option (Departure × List ℕ)
 readDeparture o [] = None
 readDeparture o (i ∷ bytes) =
-    cond (eqb i 255) (Some (None, bytes))
-    (cond (ltb (length bytes) 68) None
-    (Some (Some (record { slot = fromBigEndian4 bytes; input = i; output = o }, take 64 (drop 4 bytes)), drop 68 bytes)))
+    cond (eqb i noCell) (Some (None, bytes))
+    (cond (ltb (length bytes) (4 + bodyBytes)) None
+    (Some (Some (record { slot = fromBigEndian4 bytes; input = i; output = o }, take bodyBytes (drop 4 bytes)), drop (4 + bodyBytes) bytes)))
 
 -- a departure before those that were read behind it
 abbrev pub departureBefore : Departure → Option (List Departure × List ℕ) → Option (List Departure × List ℕ)
@@ -85,12 +91,12 @@ flagsBehind n (Some ds) = beside (ds .0) (readFlags n (ds .1))
 -- what an answer of n lines says
 abbrev pub readAnswer : ℕ → List ℕ → Option (List Departure × List Bool)
 readAnswer n [] = None
-readAnswer n (kind ∷ bytes) = cond (eqb kind 3) (flagsBehind n (readDepartures 0 n bytes)) None
+readAnswer n (kind ∷ bytes) = cond (eqb kind answerKind) (flagsBehind n (readDepartures 0 n bytes)) None
 
 -- a departure by an output that an answer can tell
 abbrev pub Leaves : ℕ → Departure → Type 0
 Leaves o None = Unit {0}
-Leaves o (Some d) = (d .0 .input < 255) × (d .0 .slot < 2 ^ 32) × (d .0 .output ≡ o) × (length (d .1) ≡ 64)
+Leaves o (Some d) = (d .0 .input < noCell) × (d .0 .slot < 2 ^ 32) × (d .0 .output ≡ o) × (length (d .1) ≡ bodyBytes)
 
 -- departures by the outputs from one on
 abbrev pub AllLeave : ℕ → List Departure → Type 0

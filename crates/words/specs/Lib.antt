@@ -1,5 +1,6 @@
 pub mod Answer
 pub mod Fault
 pub mod Lines
+pub mod Numbers
 pub mod Spelling
 pub mod Writing

@@ -13,12 +13,13 @@ use Rattle.crossbox.specs.declared.Arrival.the-variants.{Nothing, For}
 use Rattle.words.specs.declared.fault.Fault.{Fault}
 use Rattle.words.specs.declared.fault.Fault.the-variants.{Malformed, LineCount, NoSuchOutput, SlotLimit}
 use Rattle.words.specs.declared.read.Entry.{Entry}
+use Rattle.words.specs.Numbers.{mostLines, noCell}
 
 -- the number of lines, of a settings word: its length is judged before its number
 abbrev pub settings : List ℕ → Result ℕ Fault
 settings [] = Err Malformed
 settings (kind ∷ []) = Err Malformed
-settings (kind ∷ (n ∷ [])) = cond (leb 1 n && leb n 32) (Ok n) (Err LineCount)
+settings (kind ∷ (n ∷ [])) = cond (leb 1 n && leb n mostLines) (Ok n) (Err LineCount)
 settings (kind ∷ (n ∷ (b ∷ bytes))) = Err Malformed
 
 -- one input's part of a word: what arrives, and its bytes
@@ -30,7 +31,7 @@ pub record Line : Type 0 where
 unfoldable pub readEntry : ℕ → List ℕ → Option (Line × List ℕ)
 readEntry size [] = None
 readEntry size (b ∷ bytes) =
-    cond (eqb b 255) (Some (record { arrival = Nothing; body = [] }, bytes))
+    cond (eqb b noCell) (Some (record { arrival = Nothing; body = [] }, bytes))
     (cond (ltb (length bytes) size) None (Some (record { arrival = For b; body = take size bytes }, drop size bytes)))
 
 -- what the code's reader gives, as a line and bytes

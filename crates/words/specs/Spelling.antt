@@ -6,15 +6,16 @@ use lib.ListN.{length}
 use Rattle.std.specs.declared.option.Option.the-variants.{Some}
 use Rattle.crossbox.specs.declared.Arrival.{Arrival}
 use Rattle.crossbox.specs.declared.Arrival.the-variants.{Nothing, For}
+use Rattle.words.specs.Numbers.{noCell}
 use Rattle.words.specs.Lines.{Line, readLines}
 
 -- the bytes are these lines one after the other, with bodies of `size` bytes
 pub data Spells : ℕ → List Line → List ℕ → Type 0 where
   none : {size : ℕ} → Spells size [] []
   nothing : {size : ℕ} {ls : List Line} {bytes : List ℕ} →
-      Spells size ls bytes → Spells size (record { arrival = Nothing; body = [] } ∷ ls) (255 ∷ bytes)
+      Spells size ls bytes → Spells size (record { arrival = Nothing; body = [] } ∷ ls) (noCell ∷ bytes)
   cell : {size : ℕ} {ls : List Line} {bytes : List ℕ} (o : ℕ) (body : List ℕ) →
-      (o ≡ 255 → ⊥) → length body ≡ size → Spells size ls bytes →
+      (o ≡ noCell → ⊥) → length body ≡ size → Spells size ls bytes →
       Spells size (record { arrival = For o; body = body } ∷ ls) (o ∷ (body ++ bytes))
 
 -- the reader reads lines just where the bytes are these lines, and as many as it was told
@@ -25,7 +26,7 @@ ReadIsSpelled = (size k : ℕ) (ls : List Line) (bytes : List ℕ) →
 
 -- a line's bytes: 255 for nothing, else the output and the body
 abbrev pub lineBytes : Arrival → List ℕ → List ℕ
-lineBytes Nothing body = 255 ∷ []
+lineBytes Nothing body = noCell ∷ []
 lineBytes (For o) body = o ∷ body
 
 -- lines written one after the other
@@ -36,7 +37,7 @@ spell (l ∷ ls) = lineBytes (l .arrival) (l .body) ++ spell ls
 -- a line that can be written: no body with nothing, and `size` bytes with an output, which is not 255
 abbrev pub Formed : ℕ → Arrival → List ℕ → Type 0
 Formed size Nothing body = body ≡ []
-Formed size (For o) body = (o ≡ 255 → ⊥) × (length body ≡ size)
+Formed size (For o) body = (o ≡ noCell → ⊥) × (length body ≡ size)
 
 -- lines that can be written
 abbrev pub AllFormed : ℕ → List Line → Type 0

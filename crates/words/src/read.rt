@@ -3,6 +3,7 @@ ghost use mathlib.Core.Path.{_≡_};
 ghost use mathlib.Core.Bool.{_&&_};
 ghost use lib.ListN.{length};
 ghost use Rattle.words.specs.Lines.{settings, readEntry, entryOf, fits, judge, verdict};
+use crate::BODY;
 use crate::MOST_LINES;
 use crate::NONE;
 use crate::fault::Fault;
@@ -55,7 +56,7 @@ pub fn read_entry(bytes: &[u8], size: usize) -> Option<Entry<'_>>
 }
 
 // What a cell carries, as an array.
-pub fn body_of(bytes: &[u8]) -> [u8; 64]
+pub fn body_of(bytes: &[u8]) -> [u8; BODY]
     requires { ⌜ length (now bytes) ≡ 64 ⌝ }
     ensures { λ r. ⌜ r ≡ now (bytes .entry) ⌝ }
 {

@@ -4,6 +4,7 @@ ghost use mathlib.Core.List.{[], _∷_};
 ghost use Prim.Native.Nat.{_+_, _≤_};
 ghost use lib.ListN.{length};
 ghost use Rattle.words.specs.Writing.{overwrite, bigEndian4, departureBytes, refusalBytes};
+use crate::ANSWER_BYTES;
 use crate::BODY;
 use crate::REFUSAL;
 use crate::fault::Fault;
@@ -11,7 +12,7 @@ use crossbox::Cell;
 use std::simd::prelude::*;
 
 // Writes one byte.
-pub fn write_byte(out: &mut [u8; 2241], at: usize, b: u8) -> usize
+pub fn write_byte(out: &mut [u8; ANSWER_BYTES], at: usize, b: u8) -> usize
     requires { ⌜ at + 1 ≤ 2241 ⌝ }
     ensures bytes { λ _. ⌜ now (out .exit) ≡ overwrite at (b ∷ []) (now (out .entry)) ⌝ }
     ensures next { λ r. ⌜ r ≡ at + 1 ⌝ }
@@ -21,7 +22,7 @@ pub fn write_byte(out: &mut [u8; 2241], at: usize, b: u8) -> usize
 }
 
 // Copies what a cell carries into a part as long.
-fn copy_body(part: &mut [u8], body: &[u8; 64])
+fn copy_body(part: &mut [u8], body: &[u8; BODY])
     requires { ⌜ length (now part) ≡ 64 ⌝ }
     ensures { λ _. ⌜ now (part .exit) ≡ now (body .entry) ⌝ }
 {
@@ -29,7 +30,7 @@ fn copy_body(part: &mut [u8], body: &[u8; 64])
 }
 
 // Writes what a cell carries.
-fn write_body(out: &mut [u8; 2241], at: usize, body: &[u8; 64]) -> usize
+fn write_body(out: &mut [u8; ANSWER_BYTES], at: usize, body: &[u8; BODY]) -> usize
     requires { ⌜ at + 64 ≤ 2241 ⌝ }
     ensures bytes { λ _. ⌜ now (out .exit) ≡ overwrite at (now (body .entry)) (now (out .entry)) ⌝ }
     ensures next { λ r. ⌜ r ≡ at + 64 ⌝ }
@@ -39,7 +40,7 @@ fn write_body(out: &mut [u8; 2241], at: usize, body: &[u8; 64]) -> usize
 }
 
 // Writes a number of 32 bits, high byte first.
-fn write_number(out: &mut [u8; 2241], at: usize, x: u32) -> usize
+fn write_number(out: &mut [u8; ANSWER_BYTES], at: usize, x: u32) -> usize
     requires { ⌜ at + 4 ≤ 2241 ⌝ }
     ensures bytes { λ _. ⌜ now (out .exit) ≡ overwrite at (bigEndian4 x) (now (out .entry)) ⌝ }
     ensures next { λ r. ⌜ r ≡ at + 4 ⌝ }
@@ -52,7 +53,12 @@ fn write_number(out: &mut [u8; 2241], at: usize, x: u32) -> usize
 }
 
 // Writes a cell that leaves: its input, the slot in which it arrived, and what it carries.
-pub fn write_departure(out: &mut [u8; 2241], at: usize, cell: Cell, body: &[u8; 64]) -> usize
+pub fn write_departure(
+    out: &mut [u8; ANSWER_BYTES],
+    at: usize,
+    cell: Cell,
+    body: &[u8; BODY],
+) -> usize
     requires { ⌜ at + 69 ≤ 2241 ⌝ }
     ensures bytes { λ _. ⌜ now (out .exit) ≡ overwrite at (departureBytes cell (now (body .entry))) (now (out .entry)) ⌝ }
     ensures next { λ r. ⌜ r ≡ at + 69 ⌝ }
@@ -63,7 +69,7 @@ pub fn write_departure(out: &mut [u8; 2241], at: usize, cell: Cell, body: &[u8; 
 }
 
 // Writes a refusal at the buffer's start.
-pub fn write_refusal(out: &mut [u8; 2241], fault: Fault) -> usize
+pub fn write_refusal(out: &mut [u8; ANSWER_BYTES], fault: Fault) -> usize
     ensures bytes { λ _. ⌜ now (out .exit) ≡ overwrite 0 (refusalBytes fault) (now (out .entry)) ⌝ }
     ensures next { λ r. ⌜ r ≡ 2 ⌝ }
 {
