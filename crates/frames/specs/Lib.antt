@@ -1,0 +1,4 @@
+pub mod Streams
+pub mod Frames
+pub mod Hex
+pub mod Laws
