@@ -26,10 +26,10 @@ taken-is :
     (n : ℕ) (bytes : List ℕ) (p : List ℕ × List ℕ) →
     taken n bytes ≡ Some p → (n ≤ length bytes) × (p .0 ≡ take n bytes) × (p .1 ≡ drop n bytes)
 taken-is n bytes p e =
-    elim (cases-bool (leb n (length bytes)))
-    [ inl t ↦ let h = leb-true n (length bytes) t in let s = taken-some n bytes h in
-        (h, grind arith, grind arith)
-    | inr f ↦ let s : taken n bytes ≡ None = ap (λ b. cond b (Some (take n bytes, drop n bytes)) None) f in absurd (grind arith)
+    elim (cases-bool (leb n (length bytes))) [
+      | inl t ↦ let h = leb-true n (length bytes) t in let s = taken-some n bytes h in
+          (h, grind arith, grind arith)
+      | inr f ↦ let s : taken n bytes ≡ None = ap (λ b. cond b (Some (take n bytes, drop n bytes)) None) f in absurd (grind arith)
     ]
 
 pub shrinks : Shrinks nextFrame

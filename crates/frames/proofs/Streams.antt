@@ -50,7 +50,7 @@ module _ (next : List ℕ → Taken) (shrinks : Shrinks next) where
   splits-in-turn bytes =
       enough (length bytes) (suc (length bytes)) bytes (omega arith) (omega arith)
       ∙ after-same bytes (splitMost next (length bytes)) (split next) (next bytes)
-        (λ p e. let less = shrinks bytes p e in enough (length bytes) (length (p .1)) (p .1) (omega arith) (omega arith))
+      (λ p e. let less = shrinks bytes p e in enough (length bytes) (length (p .1)) (p .1) (omega arith) (omega arith))
 
   -- the split where nothing, or a word, can be taken
   pub split-none : (bytes : List ℕ) → next bytes ≡ None → split next bytes ≡ ([], bytes)

@@ -24,15 +24,20 @@ blank c = eqb c 32 || (eqb c 9 || eqb c 13)
 abbrev pub within : ℕ → ℕ → ℕ → Bool
 within low high c = leb low c && leb c high
 
--- the value of a digit, `0` to `9`, `a` to `f` or `A` to `F`
+-- the value of the digit `a`
+abbrev pub letterValue : ℕ
+letterValue = 10
+
+-- the value of a digit, `0` to `9` (48 to 57), `a` to `f` (97 to 102) or `A` to `F` (65 to 70)
 unfoldable pub digitValue : ℕ → Option ℕ
 digitValue c =
     cond (within 48 57 c) (Some (c - 48))
-    (cond (within 97 102 c) (Some (c - 87)) (cond (within 65 70 c) (Some (c - 55)) None))
+    (cond (within 97 102 c) (Some (c - 97 + letterValue))
+    (cond (within 65 70 c) (Some (c - 65 + letterValue)) None))
 
 -- the digit of a value, `0` to `9` or `a` to `f`
 unfoldable pub digit : ℕ → ℕ
-digit v = cond (ltb v 10) (v + 48) (v + 87)
+digit v = cond (ltb v letterValue) (v + 48) (v - letterValue + 97)
 
 -- a digit's value in front of others
 abbrev pub before : Option ℕ → Option (List ℕ) → Option (List ℕ)

@@ -13,6 +13,6 @@ returns c =
     let parts = c .in-Continue-word .ensures tt .cases in
     let two : 2 ≤ length bytes = search needs in
     let taken =
-        frame-taken bytes (take (length bytes - 2) (drop 2 bytes)) (c .from .result) two (search needs)
-        (take-rest bytes 2) (parts .0) in
+    frame-taken bytes (take (length bytes - 2) (drop 2 bytes)) (c .from .result) two (search needs)
+    (take-rest bytes 2) (parts .0) in
     cc

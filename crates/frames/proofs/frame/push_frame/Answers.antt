@@ -19,6 +19,6 @@ returns c =
     let bytes = c .to-be-bytes .result in
     let all : vec-items (c .extend-from-slice .last .self) ≡ ((was ++ getD bytes 0 0 ∷ []) ++ getD bytes 1 0 ∷ []) ++ word = cc (cond-true _ _ _ ok) in
     let same =
-        frame-pushed was _ word (length word) (getD bytes 0 0) (getD bytes 1 0) refl (c .pre) (ap (λ x. getD x 0 0) (c .to-be-bytes .ensures))
-        (ap (λ x. getD x 1 0) (c .to-be-bytes .ensures)) all in
+    frame-pushed was _ word (length word) (getD bytes 0 0) (getD bytes 1 0) refl (c .pre) (ap (λ x. getD x 0 0) (c .to-be-bytes .ensures))
+    (ap (λ x. getD x 1 0) (c .to-be-bytes .ensures)) all in
     record { items = same ∙ sym (cond-true _ (was ++ framed word) was ok); succeeds = λ _. ok }
