@@ -12,7 +12,7 @@ use Rattle.std.specs.Options.{mapped}
 use Rattle.std.specs.declared.option.Option.{Option}
 use Rattle.std.specs.declared.option.Option.the-variants.{Some, None}
 use Rattle.frames.specs.Hex.{blank, digitValue, digit, before, digitValuesOf, paired, pairedIf, digits, digitValues, lineFeed, hexLine, unhex}
-use Rattle.frames.specs.Laws.{DigitsRoundTrip}
+use Rattle.frames.specs.Laws.{DigitsRoundTrip, BlanksPass, CapitalsAreRead}
 
 pub digit-value : (v : ℕ) → v < digitValues → digitValue (digit v) ≡ Some v
 unfolding digitValue digit
@@ -65,6 +65,32 @@ digits-round-trip (b ∷ bs) good =
     ∙ ap (λ z. mapped (λ rest. (high * digitValues + low) ∷ rest) z) (digits-round-trip bs (good .1))
     ∙ ap (λ z. Some (z ∷ bs)) same
 
+-- what follows some characters may be exchanged for what has the same digits
+same-behind :
+    (front xs ys : List ℕ) → digitValuesOf xs ≡ digitValuesOf ys → digitValuesOf (front ++ xs) ≡ digitValuesOf (front ++ ys)
+unfolding digitValuesOf
+same-behind [] xs ys e = e
+same-behind (c ∷ front) xs ys e =
+    ap (λ z. cond (blank c) z (before (digitValue c) z)) (same-behind front xs ys e)
+
+pub blanks-pass : BlanksPass
+blanks-pass front back c b = ap pairedIf (same-behind front (c ∷ back) back (values-blank c back b))
+
+capital-no-blank : (c : ℕ) → 65 ≤ c → blank c ≡ false
+unfolding blank
+capital-no-blank c low = grind (arith, tells)
+
+capital-value : (c : ℕ) → 65 ≤ c → c ≤ 70 → digitValue c ≡ digitValue (c + 32)
+unfolding digitValue
+capital-value c low high = grind (arith, tells)
+
+pub capitals-are-read : CapitalsAreRead
+capitals-are-read front back c low high =
+    let small : ℕ = c + 32 in
+    let capital-more = values-more c back (digitValue small) (capital-no-blank c low) (capital-value c low high) in
+    let small-more = values-more small back (digitValue small) (capital-no-blank small (omega arith)) refl in
+    ap pairedIf (same-behind front (c ∷ back) (small ∷ back) (capital-more ∙ sym small-more))
+
 pub length-digits : (w : List ℕ) → length (digits w) ≡ 2 * length w
 unfolding digits
 length-digits [] = refl
@@ -91,14 +117,15 @@ unfolding digits
 written-none before word = sym (append-nil before)
 
 pub written-more :
-    (before word was after : List ℕ) (i high low : ℕ) →
+    (before word was between after : List ℕ) (i high low : ℕ) →
     i < length word →
     Written before word i was →
     high ≡ digit (getD word i 0 / digitValues) →
-    low ≡ digit (getD word i 0 % digitValues) → after ≡ (was ++ high ∷ []) ++ low ∷ [] → Written before word (i + 1) after
-written-more before word was after i high low h w eh el e =
+    between ≡ was ++ high ∷ [] →
+    low ≡ digit (getD word i 0 % digitValues) → after ≡ between ++ low ∷ [] → Written before word (i + 1) after
+written-more before word was between after i high low h w eh e el f =
     let b : ℕ = getD word i 0 in
-    e ∙ append-assoc was (high ∷ []) (low ∷ [])
+    f ∙ ap (λ z. z ++ low ∷ []) e ∙ append-assoc was (high ∷ []) (low ∷ [])
     ∙ ap (λ z. z ++ high ∷ low ∷ []) w
     ∙ append-assoc before (digits (take i word)) (high ∷ low ∷ [])
     ∙ ap (λ z. before ++ (digits (take i word) ++ z ∷ low ∷ [])) eh

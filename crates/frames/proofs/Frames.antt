@@ -7,13 +7,15 @@ use Prim.Native.Nat.{ℕ, zero, suc, _<_, _≤_, _+_, _*_, _/_, _%_}
 use native.Mathlib.Omega.{arith}
 use lib.Dec.{leb}
 use lib.ListN.{length, take, drop, getD}
-use Rattle.std.proofs.shelf.Lists.{length-append, length-drop, take-append-le, drop-append-le, take-at, drop-at, map-id}
+use Rattle.std.proofs.shelf.Elements.{all-drop}
+use Rattle.std.proofs.shelf.Lists.{length-append, length-drop, take-append-le, drop-append-le, take-at, drop-at, map-id, length-take-le, take-append-drop}
 use Rattle.std.proofs.shelf.Tests.{le-leb, lt-leb, leb-true, cases-bool}
+use Rattle.std.specs.shelf.Lists.{All}
 use Rattle.std.specs.declared.option.Option.the-variants.{Some, None}
 use Rattle.frames.specs.Streams.{Taken}
-use Rattle.frames.specs.Frames.{taken, framed, nextFrame, frameLimit, byteValues}
-use Rattle.frames.specs.Laws.{FramesSplit, FrameRoundTrip, FramesRoundTrip}
-use Rattle.frames.proofs.Streams.{Shrinks, Stays, splits-in-turn, splits-by-pieces, round-trip}
+use Rattle.frames.specs.Frames.{taken, framed, nextFrame, frameLimit, byteValues, frames}
+use Rattle.frames.specs.Laws.{FramesSplit, FrameRoundTrip, FramesRoundTrip, FramesRejoin}
+use Rattle.frames.proofs.Streams.{Shrinks, Stays, splits-in-turn, splits-by-pieces, split-none, split-some, round-trip, rejoins}
 
 pub taken-some : (n : ℕ) (bytes : List ℕ) → n ≤ length bytes → taken n bytes ≡ Some (take n bytes, drop n bytes)
 taken-some n bytes h = ap (λ b. cond b (Some (take n bytes, drop n bytes)) None) (le-leb n (length bytes) h)
@@ -50,6 +52,14 @@ stays (high ∷ low ∷ bytes) more p e =
     ∙ ap (λ x. Some (x, drop n (bytes ++ more))) (take-append-le n bytes more (t .0) ∙ sym (t .1))
     ∙ ap (λ x. Some (p .0, x)) (drop-append-le n bytes more (t .0) ∙ ap (λ z. z ++ more) (sym (t .2)))
 
+-- all words, where none or one can be taken from the start
+pub frames-none : (bytes : List ℕ) → nextFrame bytes ≡ None → frames bytes ≡ ([], bytes)
+frames-none bytes e = split-none nextFrame shrinks bytes e
+
+pub frames-some :
+    (bytes first rest : List ℕ) → nextFrame bytes ≡ Some (first, rest) → frames bytes ≡ (first ∷ frames rest .0, frames rest .1)
+frames-some bytes first rest e = split-some nextFrame shrinks bytes first rest e
+
 pub frames-split : FramesSplit
 frames-split = (splits-in-turn nextFrame shrinks, splits-by-pieces nextFrame shrinks stays)
 
@@ -65,6 +75,29 @@ pub frames-round-trip : FramesRoundTrip
 frames-round-trip ws tail good ends =
     round-trip nextFrame shrinks framed (λ w. w) (λ w. length w < frameLimit) frame-round-trip tail ends ws good
     ∙ ap (λ x. (x, tail)) (map-id ws)
+
+-- the first frame and the bytes behind it are the bytes
+rejoins-first :
+    (bytes : List ℕ) (p : List ℕ × List ℕ) →
+    All (λ b. b < byteValues) bytes →
+    nextFrame bytes ≡ Some p → (bytes ≡ framed (p .0) ++ p .1) × All (λ b. b < byteValues) (p .1)
+rejoins-first [] p good e = absurd (grind arith)
+rejoins-first (high ∷ []) p good e = absurd (grind arith)
+rejoins-first (high ∷ low ∷ bytes) p good e =
+    let n : ℕ = high * byteValues + low in
+    let t = taken-is n bytes p e in
+    let size : length (p .0) ≡ n = ap length (t .1) ∙ length-take-le n bytes (t .0) in
+    let high-is : high ≡ length (p .0) / byteValues = omega (arith, good .1 .0) in
+    let low-is : low ≡ length (p .0) % byteValues = omega (arith, good .1 .0) in
+    let parts : bytes ≡ p .0 ++ p .1 =
+    sym (take-append-drop n bytes) ∙ ap (λ z. z ++ drop n bytes) (sym (t .1)) ∙ ap (λ z. p .0 ++ z) (sym (t .2)) in (
+      ap (λ z. high ∷ low ∷ z) parts ∙ ap (λ z. z ∷ low ∷ (p .0 ++ p .1)) high-is
+          ∙ ap (λ z. length (p .0) / byteValues ∷ z ∷ (p .0 ++ p .1)) low-is,
+      subst (All (λ b. b < byteValues)) (sym (t .2)) (all-drop (λ b. b < byteValues) n bytes (good .1 .1)),
+    )
+
+pub frames-rejoin : FramesRejoin
+frames-rejoin = rejoins nextFrame shrinks framed (All (λ b. b < byteValues)) rejoins-first
 
 -- The calls, as the code has their facts.
 pub frame-taken :

@@ -8,14 +8,14 @@ use native.Mathlib.Omega.{arith}
 use lib.Dec.{eqb}
 use lib.ListN.{length, take, drop, getD}
 use Rattle.std.proofs.shelf.Lists.{take-more, drop-more, drop-all, take-all}
-use Rattle.std.proofs.shelf.Tests.{cases-bool, eq-eqb, ne-eqb}
+use Rattle.std.proofs.shelf.Tests.{cases-bool, eq-eqb, ne-eqb, eqb-true}
 use Rattle.std.specs.shelf.Lists.{All}
 use Rattle.std.specs.declared.option.Option.the-variants.{Some, None}
 use Rattle.frames.specs.Streams.{Taken}
-use Rattle.frames.specs.Hex.{digit, digits, hexLine, lineFeed, longer, nextLine}
-use Rattle.frames.specs.Laws.{LinesSplit, LineRoundTrip, LinesRoundTrip}
+use Rattle.frames.specs.Hex.{digit, digits, ended, hexLine, lineFeed, longer, nextLine, lines}
+use Rattle.frames.specs.Laws.{LinesSplit, LineRoundTrip, LinesRoundTrip, LinesRejoin}
 use Rattle.frames.proofs.Digits.{digit-no-line-feed}
-use Rattle.frames.proofs.Streams.{Shrinks, Stays, splits-in-turn, splits-by-pieces, round-trip}
+use Rattle.frames.proofs.Streams.{Shrinks, Stays, splits-in-turn, splits-by-pieces, split-none, split-some, round-trip, rejoins}
 
 -- a line feed ends the line, and any other character stands in it
 pub line-ends : (c : ℕ) (cs : List ℕ) → eqb c lineFeed ≡ true → nextLine (c ∷ cs) ≡ Some ([], cs)
@@ -59,6 +59,14 @@ stays (c ∷ cs) more p e =
           ∙ ap (λ (z : List ℕ × List ℕ). Some (z .0, z .1 ++ more)) (sym (q .2))
     ]
 
+-- all lines, where none or one can be taken from the start
+pub lines-none : (bytes : List ℕ) → nextLine bytes ≡ None → lines bytes ≡ ([], bytes)
+lines-none bytes e = split-none nextLine shrinks bytes e
+
+pub lines-some :
+    (bytes first rest : List ℕ) → nextLine bytes ≡ Some (first, rest) → lines bytes ≡ (first ∷ lines rest .0, lines rest .1)
+lines-some bytes first rest e = split-some nextLine shrinks bytes first rest e
+
 pub lines-split : LinesSplit
 lines-split = (splits-in-turn nextLine shrinks, splits-by-pieces nextLine shrinks stays)
 
@@ -76,6 +84,24 @@ any (w ∷ ws) = (tt, any ws)
 pub lines-round-trip : LinesRoundTrip
 lines-round-trip ws tail ends =
     round-trip nextLine shrinks hexLine digits (λ w. Unit {0}) (λ w rest g. line-round-trip w rest) tail ends ws (any ws)
+
+-- the first line and the bytes behind it are the bytes
+rejoins-first :
+    (bytes : List ℕ) (p : List ℕ × List ℕ) → Unit {0} → nextLine bytes ≡ Some p → (bytes ≡ ended (p .0) ++ p .1) × Unit {0}
+unfolding nextLine
+rejoins-first [] p good e = absurd (grind arith)
+rejoins-first (c ∷ cs) p good e =
+    elim (cases-bool (eqb c lineFeed)) [
+      | inl t ↦ let s : Some p ≡ Some ([], cs) = sym e ∙ line-ends c cs t in
+          let l : p ≡ ([], cs) = grind arith in
+          (ap (λ z. z ∷ cs) (eqb-true c lineFeed t) ∙ ap (λ (z : List ℕ × List ℕ). ended (z .0) ++ z .1) (sym l), tt)
+      | inr f ↦ let q = longer-is c (nextLine cs) p (sym (line-goes-on c cs f) ∙ e) in
+          let ih = rejoins-first cs (q .0) tt (q .1) in
+          (ap (λ z. c ∷ z) (ih .0) ∙ ap (λ (z : List ℕ × List ℕ). ended (z .0) ++ z .1) (sym (q .2)), tt)
+    ]
+
+pub lines-rejoin : LinesRejoin
+lines-rejoin bytes = rejoins nextLine shrinks ended (λ bs. Unit {0}) rejoins-first bytes tt
 
 -- what is taken where some characters stand before it in the line
 abbrev pub behind : List ℕ → Taken → Taken

@@ -1,5 +1,5 @@
 -- Splitting a stream: enough turns, the first word, bytes that come by pieces, and words read back.
-use mathlib.Core.Path.{_≡_, refl, sym, ap, _∙_}
+use mathlib.Core.Path.{_≡_, refl, sym, ap, _∙_, subst}
 use mathlib.Core.List.{List, [], _∷_, _++_, map, append-assoc}
 use Prim.Native.Nat.{ℕ, zero, suc, _<_, _≤_}
 use native.Mathlib.Omega.{arith}
@@ -91,3 +91,33 @@ module _ (next : List ℕ → Taken) (shrinks : Shrinks next) where
         rw append-assoc
         (split-some (spell w ++ (joined spell ws ++ tail)) (value w) (joined spell ws ++ tail) (one w (joined spell ws ++ tail) (good .0))
         ∙ ap (λ (s : Split). (value w ∷ s .0, s .1)) ih)
+
+  -- the bytes are what spells their words and what is left, where that holds of the first word
+  module _
+      (spell : List ℕ → List ℕ)
+      (Good : List ℕ → Type 0)
+      (first : (bytes : List ℕ) (p : List ℕ × List ℕ) → Good bytes → next bytes ≡ Some p → (bytes ≡ spell (p .0) ++ p .1) × Good (p .1)) where
+    rejoin :
+        (n : ℕ) (bytes : List ℕ) (t : Taken) →
+        length bytes ≤ n →
+        Good bytes →
+        next bytes ≡ t → (bytes ≡ joined spell (split next bytes .0) ++ split next bytes .1) × (next (split next bytes .1) ≡ None)
+    rejoin n bytes None h good e =
+        subst (λ (s : Split). (bytes ≡ joined spell (s .0) ++ s .1) × (next (s .1) ≡ None)) (sym (split-none bytes e))
+        (refl, e)
+    rejoin zero bytes (Some p) h good e = let less = shrinks bytes p e in absurd (omega arith)
+    rejoin (suc n) bytes (Some p) h good e =
+        let less = shrinks bytes p e in
+        let parts = first bytes p good e in
+        let ih = rejoin n (p .1) (next (p .1)) (omega arith) (parts .1) refl in
+        subst (λ (s : Split). (bytes ≡ joined spell (s .0) ++ s .1) × (next (s .1) ≡ None))
+        (sym (split-some bytes (p .0) (p .1) e)) (
+          parts .0 ∙ ap (λ z. spell (p .0) ++ z) (ih .0)
+              ∙ sym (append-assoc (spell (p .0)) (joined spell (split next (p .1) .0)) (split next (p .1) .1)),
+          ih .1,
+        )
+
+    pub rejoins :
+        (bytes : List ℕ) →
+        Good bytes → (bytes ≡ joined spell (split next bytes .0) ++ split next bytes .1) × (next (split next bytes .1) ≡ None)
+    rejoins bytes good = rejoin (length bytes) bytes (next bytes) (omega arith) good refl

@@ -69,9 +69,13 @@ unfoldable pub digits : List ℕ → List ℕ
 digits [] = []
 digits (b ∷ bs) = digit (b / digitValues) ∷ digit (b % digitValues) ∷ digits bs
 
+-- a line with its line feed
+abbrev pub ended : List ℕ → List ℕ
+ended line = line ++ lineFeed ∷ []
+
 -- the line of a word
 abbrev pub hexLine : List ℕ → List ℕ
-hexLine w = digits w ++ lineFeed ∷ []
+hexLine w = ended (digits w)
 
 -- a character in front of the line that was taken
 abbrev pub longer : ℕ → Taken → Taken

@@ -23,7 +23,9 @@ pub struct Frame<'a> {
 
 // The first frame of a stream; None where the bytes end before it does.
 pub fn next_frame(bytes: &[u8]) -> Option<Frame<'_>>
-    ensures { λ r. ⌜ BySome r (nextFrame (now (bytes .entry)) ≡ None) (λ f. nextFrame (now (bytes .entry)) ≡ Some (f .word .now, f .rest .now)) ⌝ }
+    ensures value { λ r. ⌜ BySome r (nextFrame (now (bytes .entry)) ≡ None) (λ f. nextFrame (now (bytes .entry)) ≡ Some (f .word .now, f .rest .now)) ⌝ }
+    ensures bound { λ r. ⌜ BySome r (Unit {0}) (λ f. length (f .word .now) < frameLimit) ⌝ }
+    ensures shorter { λ r. ⌜ BySome r (Unit {0}) (λ f. length (f .rest .now) < length (now (bytes .entry))) ⌝ }
 {
     let [high, low, behind @ ..] = bytes else {
         return None;

@@ -47,7 +47,8 @@ enum Reading {
 
 // The first line of a stream; None where there is no line feed.
 pub fn next_line(bytes: &[u8]) -> Option<Line<'_>>
-    ensures { λ r. ⌜ BySome r (nextLine (now (bytes .entry)) ≡ None) (λ l. nextLine (now (bytes .entry)) ≡ Some (l .text .now, l .rest .now)) ⌝ }
+    ensures value { λ r. ⌜ BySome r (nextLine (now (bytes .entry)) ≡ None) (λ l. nextLine (now (bytes .entry)) ≡ Some (l .text .now, l .rest .now)) ⌝ }
+    ensures shorter { λ r. ⌜ BySome r (Unit {0}) (λ l. length (l .rest .now) < length (now (bytes .entry))) ⌝ }
 {
     for (i, c) in bytes.iter().enumerate() {
         if *c == LINE_FEED {

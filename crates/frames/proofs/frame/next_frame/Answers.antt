@@ -4,7 +4,7 @@ use borrow.Author.Needs.{needs}
 use native.Mathlib.Omega.{arith}
 use lib.ListN.{length, take, drop}
 use Rattle.std.proofs.shelf.Lists.{take-rest}
-use Rattle.frames.proofs.Frames.{frame-taken}
+use Rattle.frames.proofs.Frames.{frame-taken, shrinks}
 use Rattle.frames.proofs.frame.next_frame.Needs as need
 
 pub returns : need.returns
@@ -15,4 +15,8 @@ returns c =
     let taken =
     frame-taken bytes (take (length bytes - 2) (drop 2 bytes)) (c .from .result) two (search needs)
     (take-rest bytes 2) (parts .0) in
-    cc
+    record {
+      value = cc;
+      bound = search needs;
+      shorter = shrinks bytes (c .in-Continue-word .word .now, c .in-Continue-word .rest .now) (cc);
+    }

@@ -12,7 +12,7 @@ use Rattle.frames.proofs.frame.push_frame.Needs as need
 
 pub returns : need.returns
 returns c =
-    let room = c .in-Continue-reserve .ensures tt .ok refl in
+    let room = c .in-Continue-reserve .ensures tt .cases in
     let ok : isOk (c .extend-from-slice .result) ≡ true = c .extend-from-slice .ensures .succeeds (omega arith) in
     let word = c .args .word .now in
     let was = vec-items (c .args .out .now) in
