@@ -1,0 +1,5 @@
+pub mod Streams
+pub mod Frames
+pub mod Hex
+pub mod Reading
+pub mod Laws
