@@ -96,7 +96,7 @@ empty-like room n =
       rising = λ o. refl;
     }
 
--- THE INVARIANT: every box of a run is like the ideal one, with slack 1
+-- the invariant: every box of a run is like the ideal one, with slack 1
 pub run-like : (room n : ℕ) {past : List Arrivals} {b : Box} → Run room n past b → Like n (length past) 1 b (λ o. queue room n o past)
 unfolding queue
 run-like room n begin = empty-like room n

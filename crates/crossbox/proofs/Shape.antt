@@ -60,15 +60,6 @@ waited-or-new t i true (For o) b c h =
       | inr w ↦ inl w
     ]
 
--- who waited still waits
-pub still-waits : (t i : ℕ) (test : Bool) (x : Arrival) (b : Box) (c : Cell) → isIn c (b .waiting i) ≡ true → isIn c (cond test (taken t i x b) (b .waiting i)) ≡ true
-still-waits t i false x b c h = h
-still-waits t i true Nothing b c h = h
-still-waits t i true (For o) b c h =
-    let e : Cell = record { slot = t; input = i; output = o } in
-    let p = isIn-putAt c (length (b .store o)) e (b .waiting i) in
-    grind (arith, p)
-
 -- what arrives in slot t does not wait before
 pub new-waits-not : (n t : ℕ) (b : Box) → Placed n t b → (i : ℕ) (c : Cell) → c .slot ≡ t → isIn c (b .waiting i) ≡ false
 new-waits-not n t b p i c e =

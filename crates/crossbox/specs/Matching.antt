@@ -133,7 +133,7 @@ FoundIsStable = (n : ℕ) (b : Box) → WellPlaced n b → InOrder b → Stable 
 abbrev pub FindingEnds : Type 0
 FindingEnds = (n : ℕ) (b : Box) → WellPlaced n b → Ended n b (afterAsks (pairs n b) n b)
 
--- When the finding has ended nobody asks, and it stays as it is.
+-- When the finding has ended, it stays as it is.
 abbrev pub EndedStays : Type 0
 EndedStays =
     (n : ℕ) (b : Box) (k : ℕ) → Ended n b (afterAsks k n b) → (j : ℕ) → afterAsks (j + k) n b ≡ afterAsks k n b
