@@ -94,3 +94,13 @@ module _ (count room : ℕ) (heads : List Head) (cells : List (List ℕ)) (rows 
         free-apart = nothing;
         whole = omega (arith, sum-zeros count);
       }
+
+  -- what is lent is enough for all places
+  pub lent-enough : (8224 ≤ length heads) × (8224 ≤ length cells) × (8224 ≤ length spare)
+  lent-enough =
+      let a = and-parts (leb (count * room) (length rows)) _ e .1 in
+      let b = and-parts (leb 8224 (length heads)) _ a .1 in (
+        leb-true 8224 (length heads) (and-parts (leb 8224 (length heads)) _ a .0),
+        leb-true 8224 (length cells) (and-parts (leb 8224 (length cells)) (leb 8224 (length spare)) b .0),
+        leb-true 8224 (length spare) (and-parts (leb 8224 (length cells)) (leb 8224 (length spare)) b .1),
+      )

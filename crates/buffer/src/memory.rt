@@ -1,7 +1,7 @@
 // The lent memory of a box with ROWS rows of room for ROOM places each.
 ghost use mathlib.Core.Path.{_≡_};
 ghost use mathlib.Core.Bool.{true, false};
-ghost use mathlib.Core.List.{_∷_, _++_};
+ghost use mathlib.Core.List.{[], _∷_, _++_};
 ghost use Prim.Native.Nat.{ℕ, _+_, _-_, _*_, _<_, _≤_};
 ghost use lib.Dec.{leb};
 ghost use lib.ListN.{length, getD, set, take, drop, replicate};
@@ -99,7 +99,7 @@ impl<'a, const ROWS: usize, const ROOM: usize> Memory<'a, ROWS, ROOM> {
     pub fn body<'s>(&'s self, row: u8, k: usize) -> &'s [u8; 64]
         requires sound { ⌜ Sound (view (now self)) ⌝ }
         requires within { ⌜ (row < ROWS) × (k < rowLength (view (now self)) row) ⌝ }
-        ensures { λ r. ⌜ now r ≡ getD (view (now (self .entry)) .cells) (placeAt row k (view (now (self .entry)))) (now r) ⌝ }
+        ensures { λ r. ⌜ now r ≡ getD (view (now (self .entry)) .cells) (placeAt row k (view (now (self .entry)))) [] ⌝ }
     {
         let place = self.rows[row as usize * ROOM + k];
         let cells = &*self.cells;

@@ -1,1 +1,3 @@
 pub mod Room
+pub mod Good
+pub mod Loops

@@ -24,7 +24,8 @@ pub fn write_byte(out: &mut [u8; ANSWER_BYTES], at: usize, b: u8) -> usize
 // Copies what a cell carries into a part as long.
 fn copy_body(part: &mut [u8], body: &[u8; BODY])
     requires { ⌜ length (now part) ≡ 64 ⌝ }
-    ensures { λ _. ⌜ now (part .exit) ≡ now (body .entry) ⌝ }
+    ensures bytes { λ _. ⌜ now (part .exit) ≡ now (body .entry) ⌝ }
+    ensures carried { λ _. ⌜ length (now (body .entry)) ≡ 64 ⌝ }
 {
     u8x64::from_array(*body).copy_to_slice(part);
 }
@@ -33,6 +34,7 @@ fn copy_body(part: &mut [u8], body: &[u8; BODY])
 fn write_body(out: &mut [u8; ANSWER_BYTES], at: usize, body: &[u8; BODY]) -> usize
     requires { ⌜ at + 64 ≤ 2241 ⌝ }
     ensures bytes { λ _. ⌜ now (out .exit) ≡ overwrite at (now (body .entry)) (now (out .entry)) ⌝ }
+    ensures carried { λ _. ⌜ length (now (body .entry)) ≡ 64 ⌝ }
     ensures next { λ r. ⌜ r ≡ at + 64 ⌝ }
 {
     copy_body(&mut out[at..at + BODY], body);
@@ -61,6 +63,7 @@ pub fn write_departure(
 ) -> usize
     requires { ⌜ at + 69 ≤ 2241 ⌝ }
     ensures bytes { λ _. ⌜ now (out .exit) ≡ overwrite at (departureBytes cell (now (body .entry))) (now (out .entry)) ⌝ }
+    ensures carried { λ _. ⌜ length (now (body .entry)) ≡ 64 ⌝ }
     ensures next { λ r. ⌜ r ≡ at + 69 ⌝ }
 {
     let slot = write_byte(out, at, cell.input);

@@ -3,4 +3,5 @@ use Rattle.words.proofs.Overwrites.{put-whole}
 use Rattle.words.proofs.write.copy_body.Needs as need
 
 pub returns : need.returns
-returns c = put-whole (c .args .part .now) (c .args .body .now) (search needs)
+returns c =
+    record { bytes = put-whole (c .args .part .now) (c .args .body .now) (search needs); carried = search needs }

@@ -17,4 +17,4 @@ returns c =
     (c .write-byte-slot .ensures .bytes) (c .write-number-carried .ensures .bytes) (omega arith) room in
     let all = written-then at (c .write-number-carried .result) (cell .input ∷ bigEndian4 (cell .slot)) (c .args .body .now) out _ _
     head (c .write-body .ensures .bytes) (omega arith) room in
-    record { bytes = all; next = search needs }
+    record { bytes = all; carried = c .write-body .ensures .carried; next = search needs }
