@@ -1,9 +1,9 @@
 -- Frames: what is taken, and what is read back.
-use mathlib.Core.Path.{_≡_, refl, sym, ap, _∙_, subst}
-use mathlib.Core.Bool.{cond, true, false}
+use mathlib.Core.Path.{_≡_, sym, ap, _∙_, subst}
+use mathlib.Core.Bool.{cond}
 use mathlib.Core.List.{List, [], _∷_, _++_, append-assoc}
-use mathlib.Core.Logic.{_⊎_, inl, inr}
-use Prim.Native.Nat.{ℕ, zero, suc, _<_, _≤_, _+_, _*_, _/_, _%_}
+use mathlib.Core.Logic.{inl, inr}
+use Prim.Native.Nat.{ℕ, _<_, _≤_, _+_, _*_, _/_, _%_}
 use native.Mathlib.Omega.{arith}
 use lib.Dec.{leb}
 use lib.ListN.{length, take, drop, getD}
@@ -12,7 +12,6 @@ use Rattle.std.proofs.shelf.Lists.{length-append, length-drop, take-append-le, 
 use Rattle.std.proofs.shelf.Tests.{le-leb, lt-leb, leb-true, cases-bool}
 use Rattle.std.specs.shelf.Lists.{All}
 use Rattle.std.specs.declared.option.Option.the-variants.{Some, None}
-use Rattle.frames.specs.Streams.{Taken}
 use Rattle.frames.specs.Frames.{taken, framed, nextFrame, frameLimit, byteValues, frames}
 use Rattle.frames.specs.Laws.{FramesSplit, FrameRoundTrip, FramesRoundTrip, FramesRejoin}
 use Rattle.frames.proofs.Streams.{Shrinks, Stays, splits-in-turn, splits-by-pieces, split-none, split-some, round-trip, rejoins}

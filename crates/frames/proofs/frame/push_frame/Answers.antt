@@ -1,5 +1,5 @@
 use mathlib.Core.Path.{_≡_, refl, sym, _∙_, ap}
-use mathlib.Core.Bool.{true, cond}
+use mathlib.Core.Bool.{true}
 use mathlib.Core.List.{_∷_, [], _++_}
 use native.Mathlib.Omega.{arith}
 use lib.ListN.{length, getD}
