@@ -110,13 +110,16 @@ frame-taken (high ∷ low ∷ bytes) behind size h is b k =
     rw (b, is) (taken-some (high * byteValues + low) bytes (omega (arith, ap length b)))
 
 pub frame-pushed :
-    (was after word : List ℕ) (size high low : ℕ) →
-    size ≡ length word →
+    (was reserved one two after word : List ℕ) (high low : ℕ) →
     length word < frameLimit →
-    high ≡ size / 256 % 256 →
-    low ≡ size % 256 → after ≡ ((was ++ high ∷ []) ++ low ∷ []) ++ word → after ≡ was ++ framed word
-frame-pushed was after word size high low s h i l e =
+    high ≡ length word / byteValues % byteValues →
+    low ≡ length word % byteValues →
+    reserved ≡ was →
+    one ≡ reserved ++ high ∷ [] → two ≡ one ++ low ∷ [] → after ≡ two ++ word → after ≡ was ++ framed word
+frame-pushed was reserved one two after word high low h i low-is e₀ e₁ e₂ e₃ =
     let high-is : high ≡ length word / byteValues = omega arith in
-    let low-is : low ≡ length word % byteValues = omega arith in
-    e ∙ append-assoc (was ++ high ∷ []) (low ∷ []) word ∙ append-assoc was (high ∷ []) (low ∷ word)
-    ∙ ap (λ x. was ++ x ∷ low ∷ word) high-is ∙ ap (λ x. was ++ length word / byteValues ∷ x ∷ word) low-is
+    e₃ ∙ ap (λ x. x ++ word) (e₂ ∙ ap (λ x. x ++ low ∷ []) (e₁ ∙ ap (λ x. x ++ high ∷ []) e₀))
+    ∙ append-assoc (was ++ high ∷ []) (low ∷ []) word
+    ∙ append-assoc was (high ∷ []) (low ∷ word)
+    ∙ ap (λ x. was ++ x ∷ low ∷ word) high-is
+    ∙ ap (λ x. was ++ length word / byteValues ∷ x ∷ word) low-is
