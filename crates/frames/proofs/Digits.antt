@@ -1,6 +1,6 @@
 -- Digits: each is read back, and so are the digits of a word.
 use mathlib.Core.Path.{_≡_, refl, sym, ap, _∙_}
-use mathlib.Core.Bool.{Bool, cond, true, false}
+use mathlib.Core.Bool.{cond, true, false}
 use mathlib.Core.List.{List, [], _∷_, _++_, append-assoc, append-nil}
 use Prim.Native.Nat.{ℕ, _<_, _≤_, _+_, _*_, _/_, _%_}
 use native.Mathlib.Omega.{arith}
@@ -11,7 +11,7 @@ use Rattle.std.proofs.shelf.Ways.{tells}
 use Rattle.std.specs.Options.{mapped}
 use Rattle.std.specs.declared.option.Option.{Option}
 use Rattle.std.specs.declared.option.Option.the-variants.{Some, None}
-use Rattle.frames.specs.Hex.{blank, digitValue, digit, before, digitValuesOf, paired, pairedIf, digits, digitValues, lineFeed, hexLine, unhex}
+use Rattle.frames.specs.Hex.{blank, digitValue, digit, before, digitValuesOf, paired, pairedIf, digits, digitValues, lineFeed, hexLine}
 use Rattle.frames.specs.Laws.{DigitsRoundTrip, BlanksPass, CapitalsAreRead}
 
 pub digit-value : (v : ℕ) → v < digitValues → digitValue (digit v) ≡ Some v

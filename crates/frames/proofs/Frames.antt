@@ -1,9 +1,9 @@
 -- Frames: what is taken, and what is read back.
-use mathlib.Core.Path.{_≡_, refl, sym, ap, _∙_, subst}
-use mathlib.Core.Bool.{cond, true, false}
+use mathlib.Core.Path.{_≡_, sym, ap, _∙_, subst}
+use mathlib.Core.Bool.{cond}
 use mathlib.Core.List.{List, [], _∷_, _++_, append-assoc}
-use mathlib.Core.Logic.{_⊎_, inl, inr}
-use Prim.Native.Nat.{ℕ, zero, suc, _<_, _≤_, _+_, _*_, _/_, _%_}
+use mathlib.Core.Logic.{inl, inr}
+use Prim.Native.Nat.{ℕ, _<_, _≤_, _+_, _*_, _/_, _%_}
 use native.Mathlib.Omega.{arith}
 use lib.Dec.{leb}
 use lib.ListN.{length, take, drop, getD}
@@ -12,7 +12,6 @@ use Rattle.std.proofs.shelf.Lists.{length-append, length-drop, take-append-le, 
 use Rattle.std.proofs.shelf.Tests.{le-leb, lt-leb, leb-true, cases-bool}
 use Rattle.std.specs.shelf.Lists.{All}
 use Rattle.std.specs.declared.option.Option.the-variants.{Some, None}
-use Rattle.frames.specs.Streams.{Taken}
 use Rattle.frames.specs.Frames.{taken, framed, nextFrame, frameLimit, byteValues, frames}
 use Rattle.frames.specs.Laws.{FramesSplit, FrameRoundTrip, FramesRoundTrip, FramesRejoin}
 use Rattle.frames.proofs.Streams.{Shrinks, Stays, splits-in-turn, splits-by-pieces, split-none, split-some, round-trip, rejoins}
@@ -111,13 +110,16 @@ frame-taken (high ∷ low ∷ bytes) behind size h is b k =
     rw (b, is) (taken-some (high * byteValues + low) bytes (omega (arith, ap length b)))
 
 pub frame-pushed :
-    (was after word : List ℕ) (size high low : ℕ) →
-    size ≡ length word →
+    (was reserved one two after word : List ℕ) (high low : ℕ) →
     length word < frameLimit →
-    high ≡ size / 256 % 256 →
-    low ≡ size % 256 → after ≡ ((was ++ high ∷ []) ++ low ∷ []) ++ word → after ≡ was ++ framed word
-frame-pushed was after word size high low s h i l e =
+    high ≡ length word / byteValues % byteValues →
+    low ≡ length word % byteValues →
+    reserved ≡ was →
+    one ≡ reserved ++ high ∷ [] → two ≡ one ++ low ∷ [] → after ≡ two ++ word → after ≡ was ++ framed word
+frame-pushed was reserved one two after word high low h i low-is e₀ e₁ e₂ e₃ =
     let high-is : high ≡ length word / byteValues = omega arith in
-    let low-is : low ≡ length word % byteValues = omega arith in
-    e ∙ append-assoc (was ++ high ∷ []) (low ∷ []) word ∙ append-assoc was (high ∷ []) (low ∷ word)
-    ∙ ap (λ x. was ++ x ∷ low ∷ word) high-is ∙ ap (λ x. was ++ length word / byteValues ∷ x ∷ word) low-is
+    e₃ ∙ ap (λ x. x ++ word) (e₂ ∙ ap (λ x. x ++ low ∷ []) (e₁ ∙ ap (λ x. x ++ high ∷ []) e₀))
+    ∙ append-assoc (was ++ high ∷ []) (low ∷ []) word
+    ∙ append-assoc was (high ∷ []) (low ∷ word)
+    ∙ ap (λ x. was ++ x ∷ low ∷ word) high-is
+    ∙ ap (λ x. was ++ length word / byteValues ∷ x ∷ word) low-is

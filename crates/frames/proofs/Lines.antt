@@ -1,18 +1,18 @@
 -- Lines: what is taken, and what is read back.
 use mathlib.Core.Path.{_≡_, refl, sym, ap, _∙_}
-use mathlib.Core.Bool.{Bool, cond, true, false}
-use mathlib.Core.List.{List, [], _∷_, _++_, map, append-assoc, append-nil}
-use mathlib.Core.Logic.{_⊎_, inl, inr}
-use Prim.Native.Nat.{ℕ, suc, _<_, _≤_, _+_}
+use mathlib.Core.Bool.{cond, true, false}
+use mathlib.Core.List.{List, [], _∷_, _++_, append-assoc, append-nil}
+use mathlib.Core.Logic.{inl, inr}
+use Prim.Native.Nat.{ℕ, _<_, _≤_, _+_}
 use native.Mathlib.Omega.{arith}
 use lib.Dec.{eqb}
 use lib.ListN.{length, take, drop, getD}
-use Rattle.std.proofs.shelf.Lists.{take-more, drop-more, drop-all, take-all}
+use Rattle.std.proofs.shelf.Lists.{take-more, drop-more, drop-all}
 use Rattle.std.proofs.shelf.Tests.{cases-bool, eq-eqb, ne-eqb, eqb-true}
 use Rattle.std.specs.shelf.Lists.{All}
 use Rattle.std.specs.declared.option.Option.the-variants.{Some, None}
 use Rattle.frames.specs.Streams.{Taken}
-use Rattle.frames.specs.Hex.{digit, digits, ended, hexLine, lineFeed, longer, nextLine, lines}
+use Rattle.frames.specs.Hex.{digits, ended, hexLine, lineFeed, longer, nextLine, lines}
 use Rattle.frames.specs.Laws.{LinesSplit, LineRoundTrip, LinesRoundTrip, LinesRejoin}
 use Rattle.frames.proofs.Digits.{digit-no-line-feed}
 use Rattle.frames.proofs.Streams.{Shrinks, Stays, splits-in-turn, splits-by-pieces, split-none, split-some, round-trip, rejoins}

@@ -16,6 +16,10 @@ lineFeed = 10
 abbrev pub digitValues : ℕ
 digitValues = 16
 
+-- how many digits a byte has
+abbrev pub digitsPerByte : ℕ
+digitsPerByte = 2
+
 -- space, tab and carriage return are passed over
 unfoldable pub blank : ℕ → Bool
 blank c = eqb c 32 || (eqb c 9 || eqb c 13)

@@ -9,7 +9,7 @@ ghost use Rattle.std.specs.Options.{isSome, valueOr, Cases as BySome};
 ghost use Rattle.std.specs.Results.{isOk};
 ghost use Rattle.std.specs.Vec.{made};
 ghost use Rattle.std.specs.declared.option.Option.the-variants.{Some, None};
-ghost use Rattle.frames.specs.Hex.{digitValues, blank, digitValue, digit, unhex, hexLine, nextLine};
+ghost use Rattle.frames.specs.Hex.{digitValues, digitsPerByte, blank, digitValue, digit, unhex, hexLine, nextLine};
 ghost use Rattle.frames.specs.Reading.{comesTo, begun, Digit};
 use std::alloc::AllocError;
 
@@ -61,11 +61,12 @@ pub fn next_line(bytes: &[u8]) -> Option<Line<'_>>
     None
 }
 
-// Makes `word` the word that a line spells, its line feed left out. Where it spells none, and where there is no memory, `word` is left empty.
+// Makes `word` the word that a line spells, its line feed left out, and says whether it spells one.
+// Where it spells none, and where there is no memory, `word` is left empty.
 pub fn read_hex(line: &[u8], word: &mut Vec<u8>) -> Result<bool, AllocError>
     ensures value { λ r. ⌜ made r (λ spells. spells ≡ isSome (unhex (now (line .entry)))) ⌝ }
     ensures items { λ r. ⌜ vec-items (now (word .exit)) ≡ cond (isOk r) (valueOr (unhex (now (line .entry))) []) [] ⌝ }
-    ensures succeeds { λ r. ⌜ (length (now (line .entry)) / 2 ≤ vec-cap (now (word .entry)) → isOk r ≡ true) ⌝ }
+    ensures succeeds { λ r. ⌜ (length (now (line .entry)) / digitsPerByte ≤ vec-cap (now (word .entry)) → isOk r ≡ true) ⌝ }
 {
     word.clear();
     word.reserve(line.len() / DIGITS_PER_BYTE)?;

@@ -1,9 +1,7 @@
-use mathlib.Core.Path.{_≡_, _∙_, sym, ap}
 use Prim.Native.Nat.{_+_}
 use borrow.Author.Needs.{needs}
-use native.Mathlib.Omega.{arith}
 use Rattle.std.proofs.shelf.Lists.{take-rest}
-use Rattle.frames.proofs.Lines.{passed-none, passed-more, passed-found, passed-all, shrinks}
+use Rattle.frames.proofs.Lines.{passed-more, passed-found, passed-all, shrinks}
 use Rattle.frames.proofs.hex.next_line.Needs as need
 
 pub returns-then-c-eq-LINE-FEED : need.returns-then-c-eq-LINE-FEED

@@ -1,8 +1,10 @@
-use mathlib.Core.Path.{refl, sym, _∙_, ap}
-use mathlib.Core.List.{_∷_}
+use mathlib.Core.Path.{_≡_, refl, sym, _∙_, ap}
+use mathlib.Core.List.{_∷_, [], _++_}
+use Prim.Native.Nat.{_+_, _*_}
 use native.Mathlib.Omega.{arith}
 use Rattle.std.specs.Of.Vec.{vec-items}
 use Rattle.frames.specs.declared.hex.Reading.the-variants.{Whole}
+use Rattle.frames.specs.Hex.{digitValues}
 use Rattle.frames.specs.Reading.{comesTo, begun}
 use Rattle.frames.proofs.Reading.{on-blank, on-high, on-low, on-other, comes-wrong}
 use Rattle.frames.proofs.hex.read_on.Needs as need
@@ -48,11 +50,13 @@ returns-in-Half c =
     let bytes = vec-items (c .args .word .now) in
     let plain = sym (c .if-is-blank .ensures tt) in
     let some = sym (c .in-Some .ensures tt .value) in
+    let byte : vec-items (c .push-reserved .last .self) ≡ bytes ++ (c .in-Half .high * digitValues + c .in-Some .value) ∷ [] =
+    c .push-reserved .ensures .items in
     record {
       digit = tt;
       comes =
           λ cs.
-          ap (λ z. comesTo Whole z cs) (c .push-reserved .ensures .items)
+          ap (λ z. comesTo Whole z cs) byte
           ∙ on-low bytes cs (c .in-Half .high) (c .args .c) (c .in-Some .value) plain some
           ∙ ap (λ z. comesTo z bytes (c .args .c ∷ cs)) (sym (c .in-Half .is));
       len = omega (arith, ap begun (c .in-Half .is));
