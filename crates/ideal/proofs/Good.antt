@@ -97,7 +97,7 @@ admit-all-good s t ls zero g b h = g
 admit-all-good s t ls (suc k) g b h =
     admit-good (with s (admitAll t ls k (s .mem))) t k (getD ls k noLine .arrival) (getD ls k noLine .body) (admit-all-good s t ls k g b (omega arith)) (bring-at (s .lines) ls k b (omega arith))
 
-not-zero : (k : ℕ) → eqb k 0 ≡ false → 0 < k
+pub not-zero : (k : ℕ) → eqb k 0 ≡ false → 0 < k
 not-zero zero e = absurd (eqb-false 0 0 e refl)
 not-zero (suc k) e = omega arith
 

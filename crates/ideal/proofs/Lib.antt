@@ -1,3 +1,4 @@
 pub mod Room
 pub mod Good
 pub mod Loops
+pub mod Spelled
