@@ -80,7 +80,8 @@ module _ (m : Mem) (r k : ℕ) (c : Cell) (body : List ℕ) (s : Sound m) (h : r
       ap (λ (n : ℕ). take n (drop (q * m .room) (put r k c body m .rows))) (getD-set-other (m .lens) r q (rowLength m r + 1) 0 ne)
       ∙ other-row m r q (r * m .room + k) (r * m .room + rowLength m r + 1) (movedUp (next m)) s h i ne (omega arith) (omega arith) (omega arith) up-length
 
-  next-owned : Owned m 0 (next m)
+  -- the place that is used next was free
+  pub next-owned : Owned m 0 (next m)
   next-owned =
       let i : m .free - 1 < length (take (m .free) (m .spare)) = simp length-take (omega (arith, s .spare-reach, s .whole)) in
       let j : m .free - 1 < m .free = omega arith in
@@ -92,14 +93,14 @@ module _ (m : Mem) (r k : ℕ) (c : Cell) (body : List ℕ) (s : Sound m) (h : r
       all-weaker (Owned m (q + 1)) (λ p. next m ≡ p → ⊥) (λ p o e. let z : _≡_ {A = ℕ} 0 (q + 1) = sym (next-owned .1) ∙ (ap (λ (x : ℕ). headAt m x .owner) e ∙ o .1) in omega arith) (row m q) (s .owned q i)
 
   -- places but the one that was used are as they were
-  head-elsewhere : (p : ℕ) → (next m ≡ p → ⊥) → headAt (put r k c body m) p ≡ headAt m p
+  pub head-elsewhere : (p : ℕ) → (next m ≡ p → ⊥) → headAt (put r k c body m) p ≡ headAt m p
   head-elsewhere p ne = getD-set-other (m .heads) (next m) p (headOf c (r + 1)) vacant (λ e. ne (sym e))
 
   pub put-elsewhere : (p : ℕ) → (next m ≡ p → ⊥) → heldAt (put r k c body m) p ≡ heldAt m p
   put-elsewhere p ne =
       held-alike _ _ _ _ (head-elsewhere p ne) (getD-set-other (m .cells) (next m) p body [] (λ e. ne (sym e)))
 
-  head-there : headAt (put r k c body m) (next m) ≡ headOf c (r + 1)
+  pub head-there : headAt (put r k c body m) (next m) ≡ headOf c (r + 1)
   head-there =
       let i : next m < length (m .heads) = omega (arith, next-in m s some, s .heads-reach) in
       getD-set-same (m .heads) (next m) (headOf c (r + 1)) vacant i

@@ -7,6 +7,7 @@ ghost use lib.ListN.{length, getD, take};
 ghost use Rattle.std.specs.Options.{Cases};
 ghost use Rattle.buffer.specs.Memory.{enough, fresh};
 ghost use Rattle.words.specs.Writing.{overwrite};
+ghost use Rattle.ideal.specs.Kept.{SlotStaysWithin, SettingsStayWithin, PlacesKept};
 ghost use Rattle.ideal.specs.State.{State, state, Good, unset, begun};
 ghost use Rattle.ideal.specs.Steps.{Brings, Reads, linesOf, admitOne, admitted, away, turnedAway, departing, departed, departureOf, departures, served, leavers, rejects};
 ghost use Rattle.words.specs.Answer.{Departure, Written, leaving};
@@ -171,6 +172,27 @@ impl<'a> IdealBox<'a> {
         self.now += 1;
         write_flags(out, left, self.lines, &turned_away)
     }
+}
+
+// A slot leaves what lies beyond the settings as it was, and does not depend on it.
+pub fn slot_stays_within_the_settings() -> u8
+    ensures { λ _. ⌜ SlotStaysWithin ⌝ }
+{
+    0
+}
+
+// So do new settings.
+pub fn settings_stay_within() -> u8
+    ensures { λ _. ⌜ SettingsStayWithin ⌝ }
+{
+    0
+}
+
+// A slot changes a place's bytes only where a cell is put there.
+pub fn places_keep_their_bytes() -> u8
+    ensures { λ _. ⌜ PlacesKept ⌝ }
+{
+    0
 }
 
 // Writes for each input whether its cell was turned away; gives the place behind.
