@@ -19,11 +19,11 @@ use Rattle.buffer.specs.Memory.{Mem, Sound, rowLength, put, remove, fresh, enou
 use Rattle.buffer.proofs.Put.{put-sound}
 use Rattle.buffer.proofs.Remove.{remove-sound}
 use Rattle.buffer.proofs.Reset.{reset-sound, fresh-sound, lent-enough}
-use Rattle.words.specs.Lines.{Line, fits}
+use Rattle.words.specs.Lines.{Line, noLine, fits}
 use Rattle.words.specs.Spelling.{Formed}
 use Rattle.words.proofs.Lines.{lines-length, lines-formed, formed-at, fits-at}
 use Rattle.ideal.specs.State.{State, Good, unset, begun}
-use Rattle.ideal.specs.Steps.{Brings, Reads, linesOf, noLine, admitIn, admitOne, admitAll, admitted, departOne, departing, departAll}
+use Rattle.ideal.specs.Steps.{Brings, Reads, linesOf, admitIn, admitOne, admitAll, admitted, departOne, departing, departAll}
 use Rattle.ideal.proofs.Room.{place-left}
 
 -- a box with another memory of the same lines

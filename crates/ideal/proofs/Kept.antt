@@ -20,9 +20,9 @@ use Rattle.buffer.specs.Lent.{Lent, lentTo, beyond, within}
 use Rattle.buffer.proofs.Safety.{next-in}
 use Rattle.buffer.proofs.Put.{next-owned, head-there, head-elsewhere}
 use Rattle.buffer.proofs.Within.{put-beyond, put-within, remove-beyond, remove-within, reset-beyond, reset-within}
-use Rattle.words.specs.Lines.{Line}
+use Rattle.words.specs.Lines.{Line, noLine}
 use Rattle.ideal.specs.State.{State, Good, begun}
-use Rattle.ideal.specs.Steps.{Brings, Reads, linesOf, noLine, turnedAway, admitIn, admitAll, away, departOne, departAll, served}
+use Rattle.ideal.specs.Steps.{Brings, Reads, linesOf, turnedAway, admitIn, admitAll, away, departOne, departAll, served}
 use Rattle.ideal.specs.Kept.{cut, PutThere, SlotStaysWithin, SettingsStayWithin, PlacesKept}
 use Rattle.ideal.proofs.Room.{place-left}
 use Rattle.ideal.proofs.Good.{with, Bring, bring-at, reads-bring, admit-all-good, depart-all-good, not-zero}

@@ -19,13 +19,13 @@ use Rattle.crossbox.specs.declared.Arrival.{Arrival}
 use Rattle.crossbox.specs.declared.Cell.{Cell}
 use Rattle.buffer.specs.Head.{cellOf}
 use Rattle.buffer.specs.Memory.{Mem, Sound, rowLength, headAt, placeAt, remove}
-use Rattle.words.specs.Lines.{Line, readEntry, readLines}
+use Rattle.words.specs.Lines.{Line, noLine, readEntry, readLines}
 use Rattle.words.specs.Answer.{Departure, Written, leaving}
 use Rattle.words.specs.Writing.{overwrite, departureBytes}
 use Rattle.words.proofs.Lines.{line-at}
 use Rattle.words.proofs.Answered.{answer-departure, answer-flag}
 use Rattle.ideal.specs.State.{State, Good}
-use Rattle.ideal.specs.Steps.{Brings, noLine, turnedAway, admitIn, admitOne, admitAll, admitted, away, departureOf, departOne, departing, departAll, departed, departures, served}
+use Rattle.ideal.specs.Steps.{Brings, turnedAway, admitIn, admitOne, admitAll, admitted, away, departureOf, departOne, departing, departAll, departed, departures, served}
 use Rattle.ideal.proofs.Good.{with, Bring, bring-at, admit-all-good, depart-all-good}
 
 -- nothing admitted yet

@@ -25,10 +25,10 @@ use Rattle.buffer.specs.Memory.{Mem, Held, held, heldAt, row, rowLength, placeA
 use Rattle.buffer.proofs.Safety.{row-length, row-at}
 use Rattle.buffer.proofs.Put.{put-held, put-held-other}
 use Rattle.buffer.proofs.Remove.{remove-held, remove-held-other}
-use Rattle.words.specs.Lines.{Line}
+use Rattle.words.specs.Lines.{Line, noLine}
 use Rattle.words.specs.Answer.{Departure}
 use Rattle.ideal.specs.State.{State, Good}
-use Rattle.ideal.specs.Steps.{Brings, noLine, turnedAway, admitIn, admitAll, away, departureOf, departOne, departAll, departures}
+use Rattle.ideal.specs.Steps.{Brings, turnedAway, admitIn, admitAll, away, departureOf, departOne, departAll, departures}
 use Rattle.ideal.proofs.Room.{place-left}
 use Rattle.ideal.proofs.Good.{with, Bring, bring-at, admit-all-good, depart-all-good, not-zero}
 

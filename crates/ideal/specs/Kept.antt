@@ -8,9 +8,9 @@ use lib.ListN.{getD}
 use Rattle.crossbox.specs.declared.Arrival.the-variants.{For}
 use Rattle.buffer.specs.Memory.{Mem, headAt}
 use Rattle.buffer.specs.Lent.{lentTo, beyond, within}
-use Rattle.words.specs.Lines.{Line}
+use Rattle.words.specs.Lines.{Line, noLine}
 use Rattle.ideal.specs.State.{State, Good, begun}
-use Rattle.ideal.specs.Steps.{Reads, linesOf, noLine, away, served}
+use Rattle.ideal.specs.Steps.{Reads, linesOf, away, served}
 
 -- a box to which no more is lent than n lines need: 257 places and 256 entries of rows for each
 abbrev pub cut : ℕ → State → State

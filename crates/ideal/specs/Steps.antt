@@ -12,7 +12,7 @@ use Rattle.crossbox.specs.declared.Arrival.{Arrival}
 use Rattle.crossbox.specs.declared.Arrival.the-variants.{Nothing, For}
 use Rattle.buffer.specs.Head.{cellOf}
 use Rattle.buffer.specs.Memory.{Mem, rowLength, headAt, placeAt, put, remove}
-use Rattle.words.specs.Lines.{Line, readLines, allFit}
+use Rattle.words.specs.Lines.{Line, noLine, readLines, allFit}
 use Rattle.words.specs.Answer.{Departure}
 use Rattle.ideal.specs.State.{State}
 
@@ -42,10 +42,6 @@ linesOf n bytes = valueOr (readLines 64 n bytes) []
 -- bytes give n lines, for outputs that are there
 abbrev pub Reads : ℕ → List ℕ → Type 0
 Reads n bytes = (readLines 64 n bytes ≡ Some (linesOf n bytes)) × (allFit n (linesOf n bytes) ≡ true)
-
--- a line of a slot in which nothing arrives
-abbrev pub noLine : Line
-noLine = record { arrival = Nothing; body = [] }
 
 -- the memory when the lines of the first k inputs have been admitted in slot t
 unfoldable pub admitAll : ℕ → List Line → ℕ → Mem → Mem

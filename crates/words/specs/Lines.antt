@@ -27,6 +27,10 @@ pub record Line : Type 0 where
   pub arrival : Arrival
   pub body : List ℕ
 
+-- a line by which nothing arrives
+abbrev pub noLine : Line
+noLine = record { arrival = Nothing; body = [] }
+
 -- one line and the bytes behind it: 255 is nothing, another byte an output with a body of `size` bytes
 unfoldable pub readEntry : ℕ → List ℕ → Option (Line × List ℕ)
 readEntry size [] = None

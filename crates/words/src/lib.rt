@@ -6,6 +6,7 @@ pub mod write;
 
 pub use fault::Fault;
 pub use read::Entry;
+pub use read::Kind;
 pub use read::body_of;
 pub use read::judge_lines;
 pub use read::read_entry;

@@ -2,13 +2,40 @@
 ghost use mathlib.Core.Path.{_≡_};
 ghost use mathlib.Core.Bool.{_&&_};
 ghost use lib.ListN.{length};
+ghost use Rattle.words.specs.Kind.{kindOf};
 ghost use Rattle.words.specs.Lines.{settings, readEntry, entryOf, fits, judge, verdict};
 use crate::BODY;
+use crate::CHOICE;
 use crate::MOST_LINES;
 use crate::NONE;
+use crate::SETTINGS;
+use crate::SLOT;
 use crate::fault::Fault;
 use crossbox::Arrival;
 use std::simd::prelude::*;
+
+// The kind of a word, by its first byte.
+#[derive(Clone, Copy)]
+pub enum Kind {
+    Settings,
+    Slot,
+    Choice,
+    Unknown,
+}
+
+impl Kind {
+    // The kind of a word; unknown if it is empty.
+    pub fn of(word: &[u8]) -> Kind
+        ensures { λ r. ⌜ r ≡ kindOf (now (word .entry)) ⌝ }
+    {
+        match word {
+            [SETTINGS, ..] => Kind::Settings,
+            [SLOT, ..] => Kind::Slot,
+            [CHOICE, ..] => Kind::Choice,
+            _ => Kind::Unknown,
+        }
+    }
+}
 
 // The number of lines that a settings word gives.
 pub fn read_settings(word: &[u8]) -> Result<u8, Fault>

@@ -3,10 +3,10 @@ use mathlib.Core.Bool.{Bool}
 use Prim.Native.Nat.{ℕ, _-_, _+_}
 use native.Mathlib.Omega.{arith}
 use Rattle.std.specs.declared.option.Option.the-variants.{Some}
-use Rattle.words.specs.Lines.{Line, readLines}
+use Rattle.words.specs.Lines.{Line, noLine, readLines}
 use Rattle.words.proofs.Lines.{line-there, line-at}
 use Rattle.ideal.specs.State.{State, state}
-use Rattle.ideal.specs.Steps.{linesOf, noLine, away, admitted}
+use Rattle.ideal.specs.Steps.{linesOf, away, admitted}
 use Rattle.ideal.proofs.Good.{reads-bring}
 use Rattle.ideal.proofs.Loops.{admitted-none, admitted-more, away-here, good-now, brings-now, flags-more}
 use Rattle.ideal.proofs.IdealBox.admit_all.Needs as need

@@ -1,0 +1,3 @@
+pub mod Respond
+pub mod Promise
+pub mod Best
