@@ -1,10 +1,13 @@
 pub mod Asking
+pub mod Asks
 pub mod Cells
 pub mod Choices
+pub mod Finding
 pub mod Held
 pub mod Lists
 pub mod Machine
 pub mod Pairs
+pub mod Promise
 pub mod Runs
 pub mod Same
 pub mod Shape

@@ -16,7 +16,7 @@ use Rattle.crossbox.specs.Ideal.{admitted, queue, rest, full}
 use Rattle.crossbox.specs.Box.{Box, Run, begin, slot, Stable, empty, arriving, arrived, transfer, depart, departed, heldFor, takenFor, roomFor}
 use Rattle.crossbox.specs.Shape.{InOrder, rises}
 use Rattle.crossbox.specs.Slack.{Slack}
-use Rattle.crossbox.specs.Promise.{AllFit, Fits, HoldsLike, MoreEarlier, StoresRise, SameHeld, SameHeldArriving, SameHeldTransferred, SameHeldDeparted, SameHeldThroughout, SameRejected, PairsInOrder, PairsInOrderAgain, SameDepartures}
+use Rattle.crossbox.specs.Promise.{AllFit, Fits, HoldsLike, MoreEarlier, StoresRise, StoresRiseTransferred, SameHeld, SameHeldArriving, SameHeldTransferred, SameHeldDeparted, SameHeldThroughout, SameRejected, PairsInOrder, PairsInOrderAgain, SameDepartures}
 use Rattle.crossbox.proofs.Stores.{rises-rest}
 use Rattle.crossbox.proofs.Shape.{Placed, empty-placed, none-isIn, arriving-placed, transfer-placed, depart-placed, Directed, arriving-directed, transfer-directed}
 use Rattle.crossbox.proofs.Slack.{arriving-slack, transfer-slack, depart-slack}
@@ -132,6 +132,9 @@ more-earlier room n past b r c h = let f = run-like room n r .slack c h in omega
 
 pub stores-rise : StoresRise
 stores-rise room n past b r = run-like room n r .placed .rising
+
+pub stores-rise-transferred : StoresRiseTransferred
+stores-rise-transferred room n past b r a ms st = transferred-like room n past b r a ms st .placed .rising
 
 holds-like : (room n o : ℕ) (b : Box) (q : List Cell) → heldFor n o b ≡ length q → length q ≤ room → HoldsLike room n o b q
 holds-like room n o b q e h = (e, omega arith)

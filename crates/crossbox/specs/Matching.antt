@@ -9,9 +9,10 @@ use lib.Dec.{eqb, ltb}
 use Rattle.std.specs.declared.option.Option.{Option}
 use Rattle.std.specs.declared.option.Option.the-variants.{Some, None}
 use Rattle.crossbox.specs.declared.Cell.{Cell}
-use Rattle.crossbox.specs.Cells.{ahead, earliest}
-use Rattle.crossbox.specs.Box.{Box, Stable, forOutput}
+use Rattle.crossbox.specs.Cells.{Arrivals, ahead, earliest}
+use Rattle.crossbox.specs.Box.{Box, Stable, Run, arrived, departed, forOutput}
 use Rattle.crossbox.specs.Shape.{WellPlaced, InOrder}
+use Rattle.crossbox.specs.Promise.{Fits, AllFit}
 
 -- what each input keeps, which outputs it has refused, and how often outputs have asked
 pub record Finding : Type 0 where
@@ -66,17 +67,17 @@ abbrev pub refusing : ℕ → Option Cell → (ℕ → ℕ → Bool) → ℕ →
 refusing i None refused j o = refused j o
 refusing i (Some d) refused j o = (eqb j i && eqb (d .output) o) || refused j o
 
--- a cell is asked for: its input keeps it and refuses what it kept, or refuses it
-abbrev pub answered : Box → Cell → Finding → Finding
-answered b c s =
-    cond (prefers b c (s .kept (c .input)))
-    (record { kept = keeping (c .input) c (s .kept); refused = refusing (c .input) (s .kept (c .input)) (s .refused); asks = suc (s .asks) })
+-- a cell is asked for, where its input keeps x: the input keeps the cell and refuses x, or refuses the cell
+abbrev pub answered : Box → Cell → Option Cell → Finding → Finding
+answered b c x s =
+    cond (prefers b c x)
+    (record { kept = keeping (c .input) c (s .kept); refused = refusing (c .input) x (s .refused); asks = suc (s .asks) })
     (record { kept = s .kept; refused = refusing (c .input) (Some c) (s .refused); asks = suc (s .asks) })
 
 -- a cell is asked for, if there is one
 abbrev pub asked : Box → Option Cell → Finding → Finding
 asked b None s = s
-asked b (Some c) s = answered b c s
+asked b (Some c) s = answered b c (s .kept (c .input)) s
 
 -- the finding after k asks, or when it has ended
 unfoldable pub afterAsks : ℕ → ℕ → Box → Finding
@@ -140,3 +141,13 @@ EndedStays =
 -- There are never more asks than pairs with a waiting cell.
 abbrev pub AsksAreFew : Type 0
 AsksAreFew = (n : ℕ) (b : Box) → WellPlaced n b → (k : ℕ) → afterAsks k n b .asks ≤ pairs n b
+
+-- So what is found may be transferred in every run, for the first time in a slot
+abbrev pub FoundInRun : Type 0
+FoundInRun =
+    (room n : ℕ) (past : List Arrivals) (b : Box) → AllFit n past → Run room n past b → (a : Arrivals) → Fits n a → Stable (arrived room n past a b) (find n (arrived room n past a b))
+
+-- and for the second.
+abbrev pub FoundInRunAgain : Type 0
+FoundInRunAgain =
+    (room n : ℕ) (past : List Arrivals) (b : Box) → AllFit n past → Run room n past b → (a : Arrivals) → Fits n a → (ms : List Cell) → Stable (arrived room n past a b) ms → Stable (departed room n past a ms b) (find n (departed room n past a ms b))

@@ -34,6 +34,11 @@ MoreEarlier =
 abbrev pub StoresRise : Type 0
 StoresRise = (room n : ℕ) (past : List Arrivals) (b : Box) → Run room n past b → Rising b
 
+-- So it does after the first transfer of a slot, when the earliest depart.
+abbrev pub StoresRiseTransferred : Type 0
+StoresRiseTransferred =
+    (room n : ℕ) (past : List Arrivals) (b : Box) → Run room n past b → (a : Arrivals) (ms : List Cell) → Stable (arrived room n past a b) ms → Rising (transfer ms (arrived room n past a b))
+
 -- After every slot, and so after its second transfer, the box holds for each output as many cells as the ideal box.
 abbrev pub SameHeld : Type 0
 SameHeld =

@@ -1,6 +1,7 @@
 // The model's own types, and one function for each theorem of the model: its contract is the theorem.
 ghost use Rattle.crossbox.specs.Machine.{MachineIsQueues};
-ghost use Rattle.crossbox.specs.Promise.{MoreEarlier, StoresRise, SameHeld, SameHeldArriving, SameHeldTransferred, SameHeldDeparted, SameRejected, PairsInOrder, PairsInOrderAgain, SameDepartures};
+ghost use Rattle.crossbox.specs.Matching.{FoundIsStable, FindingEnds, EndedStays, AsksAreFew, FoundInRun, FoundInRunAgain};
+ghost use Rattle.crossbox.specs.Promise.{MoreEarlier, StoresRise, StoresRiseTransferred, SameHeld, SameHeldArriving, SameHeldTransferred, SameHeldDeparted, SameRejected, PairsInOrder, PairsInOrderAgain, SameDepartures, Matched, MatchedAgain, Main};
 ghost use Rattle.crossbox.specs.Shape.{EarliestIsFirst, DepartDropsFirst};
 ghost use Rattle.crossbox.specs.Slack.{ArriveSlack, TransferSlack, DepartSlack};
 
@@ -75,6 +76,13 @@ pub fn stores_rise() -> u8
     0
 }
 
+// So it does after the first transfer of a slot, when the earliest depart.
+pub fn stores_rise_transferred() -> u8
+    ensures { λ _. ⌜ StoresRiseTransferred ⌝ }
+{
+    0
+}
+
 // After every slot the box holds as many cells for each output as the ideal box.
 pub fn same_held() -> u8
     ensures { λ _. ⌜ SameHeld ⌝ }
@@ -127,6 +135,69 @@ pub fn pairs_in_order_again() -> u8
 // In every slot by every output departs just what departs from the ideal box, for every stable choice.
 pub fn same_departures() -> u8
     ensures { λ _. ⌜ SameDepartures ⌝ }
+{
+    0
+}
+
+// What is found is a stable choice, where cells stand at their inputs and pairs in order.
+pub fn found_is_stable() -> u8
+    ensures { λ _. ⌜ FoundIsStable ⌝ }
+{
+    0
+}
+
+// After as many asks as there are pairs with a waiting cell, the finding has ended.
+pub fn finding_ends() -> u8
+    ensures { λ _. ⌜ FindingEnds ⌝ }
+{
+    0
+}
+
+// When the finding has ended, it stays as it is.
+pub fn ended_stays() -> u8
+    ensures { λ _. ⌜ EndedStays ⌝ }
+{
+    0
+}
+
+// There are never more asks than pairs with a waiting cell.
+pub fn asks_are_few() -> u8
+    ensures { λ _. ⌜ AsksAreFew ⌝ }
+{
+    0
+}
+
+// In every run what is found is a stable choice for the first transfer of a slot.
+pub fn found_in_run() -> u8
+    ensures { λ _. ⌜ FoundInRun ⌝ }
+{
+    0
+}
+
+// So it is for the second transfer.
+pub fn found_in_run_again() -> u8
+    ensures { λ _. ⌜ FoundInRunAgain ⌝ }
+{
+    0
+}
+
+// There is always a stable choice for the first transfer of a slot.
+pub fn matched() -> u8
+    ensures { λ _. ⌜ Matched ⌝ }
+{
+    0
+}
+
+// So there is for the second transfer.
+pub fn matched_again() -> u8
+    ensures { λ _. ⌜ MatchedAgain ⌝ }
+{
+    0
+}
+
+// The promise of the whole.
+pub fn the_promise() -> u8
+    ensures { λ _. ⌜ Main ⌝ }
 {
     0
 }
