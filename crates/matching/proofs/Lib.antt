@@ -1,0 +1,5 @@
+pub mod Ask
+pub mod Ends
+pub mod Heads
+pub mod Sets
+pub mod Turn
