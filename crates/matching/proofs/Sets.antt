@@ -2,15 +2,15 @@
 use mathlib.Core.Path.{_≡_, refl, ap, ap₂, sym, _∙_, subst}
 use mathlib.Core.Bool.{Bool, true, false, cond, _&&_, _||_, not}
 use mathlib.Core.Logic.{_⊎_, inl, inr}
-use Prim.Native.Nat.{ℕ, zero, suc, _+_, _*_, _/_, _%_, _^_, _<_, _≤_}
-use native.Mathlib.Nat.{div-one, zero-div, pow-suc, one-mul, mod-lt, add-zero}
+use Prim.Native.Nat.{ℕ, zero, suc, min, _+_, _-_, _*_, _/_, _%_, _^_, _<_, _≤_}
+use native.Mathlib.Nat.{div-one, zero-div, pow-suc, zero-min, min-zero}
 use native.Mathlib.Numerals.{one-add}
 use native.Mathlib.Omega.{arith}
 use lib.Dec.{eqb, ltb}
-use lib.Bits.{bitAnd, bitOr, bitXor, shifted-half, shifted-even, and-block, xor-add-and, and-zero-r}
+use lib.Bits.{bitAnd, bitOr, bitXor, shifted-half, shifted-even, and-step, and-self, and-block, xor-add-and, and-zero-r}
 use lib.Count.{trailingZeros, under}
-use Rattle.std.proofs.shelf.Bits.{pow-pos, shr-shr, shr-split, shr-below, or-shr, or-mod, xor-shr, xor-mod, and-mask, mod-below, one-shl}
-use Rattle.std.proofs.shelf.Tests.{eqb-true, eq-eqb}
+use Rattle.std.proofs.shelf.Bits.{pow-pos, shr-shr, shr-split, or-shr, or-mod, xor-shr, xor-mod, and-mask, mod-below}
+use Rattle.std.proofs.shelf.Tests.{both-ways, cases-order, eqb-true, eq-eqb}
 use Rattle.std.proofs.shelf.Ways.{tells}
 use Rattle.matching.specs.Bits.{isSet, Lowest}
 
@@ -130,6 +130,56 @@ and-pow x k h =
     ∙ (and-block k (x / 2 ^ k) 1 (x % 2 ^ k) 0 (mod-below x (2 ^ k) (pow-pos k)) (pow-pos k)
     ∙ (ap₂ (λ y z. y * 2 ^ k + z) (and-mask (x / 2 ^ k) 1 ∙ d) (and-zero-r (x % 2 ^ k)) ∙ p))
 
+xor-pow : (x k : ℕ) → isSet x k ≡ true → bitXor x (2 ^ k) + 2 ^ k ≡ x
+xor-pow x k h = let a = xor-add-and x (2 ^ k) in let b = and-pow x k h in omega arith
+
 pub without-less : (x k m : ℕ) → m ≡ 2 ^ k → isSet x k ≡ true → bitXor x m < x
 without-less x k m e h =
-    subst (λ z. bitXor x z < x) (sym e) (let a = xor-add-and x (2 ^ k) in let b = and-pow x k h in let p = pow-pos k in omega arith)
+    subst (λ z. bitXor x z < x) (sym e) (let a = xor-pow x k h in let p = pow-pos k in omega arith)
+
+-- the lowest bit that is set, cleared
+
+clear-under : (k x d t : ℕ) → 0 < x → x % 2 ≡ d → (0 < x / 2 → bitAnd (x / 2) (x / 2 - 1) + 2 ^ t ≡ x / 2) → bitAnd x (x - 1) + 2 ^ under d t ≡ x
+clear-under k x zero t p e f =
+    let g = f (omega arith) in
+    let h : (x - 1) / 2 ≡ x / 2 - 1 = omega arith in
+    let a = and-step x (x - 1) in
+    let b = ap (λ z. bitAnd (x / 2) z) h in
+    let m : min (x % 2) ((x - 1) % 2) ≡ 0 = ap (λ z. min z ((x - 1) % 2)) e ∙ zero-min ((x - 1) % 2) in
+    let w = pow-suc 2 t in
+    omega arith
+clear-under k x (suc d) t p e f =
+    let h : (x - 1) / 2 ≡ x / 2 = omega (arith, mod-below x 2 (omega arith)) in
+    let a = and-step x (x - 1) in
+    let b = ap (λ z. bitAnd (x / 2) z) h ∙ and-self (x / 2) in
+    let z : (x - 1) % 2 ≡ 0 = omega (arith, mod-below x 2 (omega arith)) in
+    let m : min (x % 2) ((x - 1) % 2) ≡ 0 = ap (λ z. min (x % 2) z) z ∙ min-zero (x % 2) in
+    omega (arith, mod-below x 2 (omega arith))
+
+clear-of : (k x : ℕ) → 0 < x → x < 2 ^ k → bitAnd x (x - 1) + 2 ^ trailingZeros k x ≡ x
+unfolding trailingZeros
+clear-of zero x p h = absurd (omega arith)
+clear-of (suc k) x p h =
+    clear-under k x (x % 2) (trailingZeros k (x / 2)) p refl (λ q. clear-of k (x / 2) q (let e = pow-suc 2 k in omega arith))
+
+lowest-one : (x k t : ℕ) → Lowest x k → isSet x t ≡ true → ((j : ℕ) → j < t → isSet x j ≡ false) → t ≡ k
+lowest-one x k t l h f =
+    elim (cases-order t k) [
+      | inl e ↦ e
+      | inr e ↦
+          elim e [
+            | inl a ↦ absurd (both-ways (isSet x t) (l .below t a) h)
+            | inr a ↦ absurd (both-ways (isSet x k) (f k a) (l .here))
+          ]
+    ]
+
+pub without-lowest-less : (x : ℕ) → 0 < x → x < 2 ^ 32 → bitAnd x (x - 1) < x
+without-lowest-less x p h = let e = clear-of 32 x p h in let q = pow-pos (trailingZeros 32 x) in omega arith
+
+pub without-lowest-is : (x : ℕ) → 0 < x → x < 2 ^ 32 → (k j : ℕ) → Lowest x k → isSet (bitAnd x (x - 1)) j ≡ (not (eqb j k) && isSet x j)
+without-lowest-is x p h k j l =
+    let t = trailingZeros 32 x in
+    let low = lowest-of 32 x p h in
+    let q : t ≡ k = lowest-one x k t l (low .1) (low .2) in
+    let e : bitAnd x (x - 1) ≡ bitXor x (2 ^ t) = (let a = clear-of 32 x p h in let b = xor-pow x t (low .1) in omega arith) in
+    ap (λ z. isSet z j) (e ∙ ap (λ z. bitXor x (2 ^ z)) q) ∙ without-is x k (2 ^ k) refl (l .here) j

@@ -2,7 +2,7 @@
 use mathlib.Core.Path.{_≡_}
 use mathlib.Core.Bool.{Bool, true, false}
 use mathlib.Core.List.{List}
-use Prim.Native.Nat.{ℕ, _+_, _*_, _<_, _≤_}
+use Prim.Native.Nat.{ℕ, _+_, _*_, _%_, _<_, _≤_}
 use lib.Dec.{eqb, ltb}
 use lib.ListN.{getD}
 use Rattle.crossbox.specs.declared.Arrival.{Arrival}
@@ -28,6 +28,13 @@ pub record Earliest (slots : List ℕ) (o inputs i : ℕ) : Type 0 where
   pub small : i < 32
   pub among : isSet inputs i ≡ true
   pub least : (j : ℕ) → isSet inputs j ≡ true → keyOf slots o i ≤ keyOf slots o j
+
+-- while these inputs are looked through: `least` is the least number of those that are no longer in `rest`
+pub record LeastSoFar (slots : List ℕ) (o inputs rest least : ℕ) : Type 0 where
+  pub among : isSet inputs (least % 32) ≡ true
+  pub number : least ≡ keyOf slots o (least % 32)
+  pub seen : (j : ℕ) → isSet inputs j ≡ true → isSet rest j ≡ false → least ≤ keyOf slots o j
+  pub within : (j : ℕ) → isSet rest j ≡ true → isSet inputs j ≡ true
 
 -- whether input i keeps a cell for output o, asked for while it keeps a first one: it kept none, or one that stands behind
 abbrev pub prefersIn : List ℕ → ℕ → ℕ → Arrival → Bool

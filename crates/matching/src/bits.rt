@@ -13,6 +13,15 @@ pub fn lowest(x: u32) -> u8
     x.trailing_zeros() as u8
 }
 
+// A set that is not empty, without its least.
+pub fn without_lowest(x: u32) -> u32
+    requires { ⌜ 0 < x ⌝ }
+    ensures bits { λ r. ⌜ ((k j : ℕ) → Lowest x k → isSet r j ≡ (not (eqb j k) && isSet x j)) ⌝ }
+    ensures less { λ r. ⌜ r < x ⌝ }
+{
+    x & (x - 1)
+}
+
 // A set with k in it.
 pub fn with(x: u32, k: u8) -> u32
     requires { ⌜ k < 32 ⌝ }

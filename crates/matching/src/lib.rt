@@ -14,6 +14,7 @@ mod bits;
 use crate::bits::lowest;
 use crate::bits::with;
 use crate::bits::without;
+use crate::bits::without_lowest;
 use crossbox::Arrival;
 
 // The most inputs, and the most outputs.
@@ -57,12 +58,12 @@ fn earliest(slots: &[u32; 1024], o: u8, inputs: u32) -> u8
 {
     let first = lowest(inputs);
     let mut least = key(slots, o, first);
-    let mut rest = without(inputs, first);
+    let mut rest = without_lowest(inputs);
     while rest != 0 {
         let i = lowest(rest);
         let at_i = key(slots, o, i);
         least = least.min(at_i);
-        rest = without(rest, i);
+        rest = without_lowest(rest);
     }
     (least % 32) as u8
 }
