@@ -22,7 +22,7 @@ use Rattle.matching.specs.declared.Firsts.{Firsts}
 use Rattle.matching.specs.Bits.{isSet, Lowest}
 use Rattle.matching.specs.Table.{Ties, firstFor}
 use Rattle.matching.specs.Asking.{keyOf, Earliest}
-use Rattle.matching.specs.Loop.{mayAsk, Tied}
+use Rattle.matching.specs.Loop.{mayAsk, State, Tied}
 use Rattle.matching.proofs.Heads.{some-first, some-for, first-in, first-ahead}
 use Rattle.matching.proofs.Sets.{none-set}
 
@@ -55,9 +55,9 @@ next-at n (suc k) o b s c l f e =
     ]
 
 -- the table and the sets are those of a box and of what has been kept and refused so far
-module _ (n : ℕ) (b : Box) (t : Firsts) (ties : Ties t n b) (s : Finding) (choice : List Arrival) (askable : List ℕ) (asking : ℕ) (tied : Tied n b s choice askable asking) where
+module _ (n : ℕ) (b : Box) (t : Firsts) (ties : Ties t n b) (s : Finding) (st : State) (tied : Tied n b s st) where
   -- a cell that its input has not refused to an output that is not content may be asked for
-  may-ask : (o : ℕ) → content n o s ≡ false → (d : Cell) → isIn d (unrefused n o b s) ≡ true → (isIn d (b .waiting (d .input)) ≡ true) × (d .output ≡ o) × (isSet (getD askable o 0) (d .input) ≡ true)
+  may-ask : (o : ℕ) → content n o s ≡ false → (d : Cell) → isIn d (unrefused n o b s) ≡ true → (isIn d (b .waiting (d .input)) ≡ true) × (d .output ≡ o) × (isSet (getD (st .askable) o 0) (d .input) ≡ true)
   may-ask o h d m =
       let u = isIn-unrefused n n o b s (ties .placed) d in
       let w : isIn d (b .waiting (d .input)) ≡ true = grind (arith, u, m) in
@@ -68,34 +68,34 @@ module _ (n : ℕ) (b : Box) (t : Firsts) (ties : Ties t n b) (s : Finding) (cho
       (w, q, tied .left (d .input) o ∙ grind (arith, f, r, k))
 
   -- an output that is not among those that ask wants nothing
-  pub none-wanted : (o : ℕ) → isSet asking o ≡ false → wanted n o b s ≡ None
+  pub none-wanted : (o : ℕ) → isSet (st .asking) o ≡ false → wanted n o b s ≡ None
   none-wanted o h =
       elim (cases-bool (content n o s)) [
         | inl e ↦ ap (λ z. cond z None (earliest (unrefused n o b s))) e
         | inr e ↦
             (let a = tied .asks o in
-            let z : getD askable o 0 ≡ 0 = eqb-true (getD askable o 0) 0 (grind (arith, a, e, h)) in
+            let z : getD (st .askable) o 0 ≡ 0 = eqb-true (getD (st .askable) o 0) 0 (grind (arith, a, e, h)) in
             ap (λ z. cond z None (earliest (unrefused n o b s))) e ∙ go z e (earliest (unrefused n o b s)) refl)
       ]
     where
-      go : getD askable o 0 ≡ 0 → content n o s ≡ false → (x : Option Cell) → earliest (unrefused n o b s) ≡ x → x ≡ None
+      go : getD (st .askable) o 0 ≡ 0 → content n o s ≡ false → (x : Option Cell) → earliest (unrefused n o b s) ≡ x → x ≡ None
       go z e None q = refl
       go z e (Some d) q =
           absurd
           (let m = may-ask o e d (earliest-in (unrefused n o b s) d q) in
-          both-ways (isSet (getD askable o 0) (d .input)) (ap (λ w. isSet w (d .input)) z ∙ none-set (d .input)) (m .2))
+          both-ways (isSet (getD (st .askable) o 0) (d .input)) (ap (λ w. isSet w (d .input)) z ∙ none-set (d .input)) (m .2))
 
   -- where no output asks the finding has ended
-  pub nobody-asks : asking ≡ 0 → Ended n b s
+  pub nobody-asks : (st .asking) ≡ 0 → Ended n b s
   nobody-asks e =
       next-ended n b s (none-below n n b s (λ p l. none-wanted p (ap (λ z. isSet z p) e ∙ none-set p)))
 
   -- an output that asks is not content, and may still ask some input
-  pub asker : (o : ℕ) → isSet asking o ≡ true → (content n o s ≡ false) × (0 < getD askable o 0)
+  pub asker : (o : ℕ) → isSet (st .asking) o ≡ true → (content n o s ≡ false) × (0 < getD (st .askable) o 0)
   asker o h = let a = tied .asks o in (grind (arith, a, h), grind (arith, tells, a, h))
 
   -- an input that may be asked has a first cell for the output, which is not refused
-  pub asked-cell : (o i : ℕ) → isSet (getD askable o 0) i ≡ true → (c : Cell) × (firstFor o (b .waiting i) ≡ Some c) × (isIn c (b .waiting i) ≡ true) × (c .output ≡ o) × (c .input ≡ i) × (i < n) × (o < n) × (s .refused i o ≡ false)
+  pub asked-cell : (o i : ℕ) → isSet (getD (st .askable) o 0) i ≡ true → (c : Cell) × (firstFor o (b .waiting i) ≡ Some c) × (isIn c (b .waiting i) ≡ true) × (c .output ≡ o) × (c .input ≡ i) × (i < n) × (o < n) × (s .refused i o ≡ false)
   asked-cell o i h =
       let m = tied .left i o in
       let f = some-first (forOutput o (b .waiting i)) (grind (arith, m, h)) in
@@ -105,7 +105,7 @@ module _ (n : ℕ) (b : Box) (t : Firsts) (ties : Ties t n b) (s : Finding) (cho
       (c, f .1, g .0, g .1, p .0, p .1, subst (λ z. z < n) (g .1) (p .2), grind (arith, m, h))
 
   -- of the cells that an output may ask for, the earliest is the first one at the input whose number is least
-  asked-least : n ≤ 32 → (o i : ℕ) (c : Cell) → content n o s ≡ false → Earliest (t .slots) o (getD askable o 0) i → firstFor o (b .waiting i) ≡ Some c → c .input ≡ i → i < n → (d : Cell) → isIn d (unrefused n o b s) ≡ true → earlier d c ≡ false
+  asked-least : n ≤ 32 → (o i : ℕ) (c : Cell) → content n o s ≡ false → Earliest (t .slots) o (getD (st .askable) o 0) i → firstFor o (b .waiting i) ≡ Some c → c .input ≡ i → i < n → (d : Cell) → isIn d (unrefused n o b s) ≡ true → earlier d c ≡ false
   asked-least fits o i c h best f ci l d m =
       let w = may-ask o h d m in
       let j = d .input in
@@ -122,7 +122,7 @@ module _ (n : ℕ) (b : Box) (t : Firsts) (ties : Ties t n b) (s : Finding) (cho
       earlier-chain c e d less first
 
   -- so the lowest output that asks wants the first cell at that input, and it asks next
-  pub asked-next : n ≤ 32 → (o i : ℕ) → Lowest asking o → Earliest (t .slots) o (getD askable o 0) i → (c : Cell) → firstFor o (b .waiting i) ≡ Some c → isIn c (b .waiting i) ≡ true → c .output ≡ o → c .input ≡ i → i < n → o < n → s .refused i o ≡ false → nextAsk n n b s ≡ Some c
+  pub asked-next : n ≤ 32 → (o i : ℕ) → Lowest (st .asking) o → Earliest (t .slots) o (getD (st .askable) o 0) i → (c : Cell) → firstFor o (b .waiting i) ≡ Some c → isIn c (b .waiting i) ≡ true → c .output ≡ o → c .input ≡ i → i < n → o < n → s .refused i o ≡ false → nextAsk n n b s ≡ Some c
   unfolding isIn
   asked-next fits o i low best c f w q ci li lo r =
       let h = asker o (low .here) .0 in

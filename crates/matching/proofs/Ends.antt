@@ -25,7 +25,7 @@ use Rattle.matching.specs.declared.Found.{Found}
 use Rattle.matching.specs.Bits.{isSet, Lowest}
 use Rattle.matching.specs.Table.{Ties, Finds, firstFor, shown}
 use Rattle.matching.specs.Asking.{Small}
-use Rattle.matching.specs.Loop.{Tied}
+use Rattle.matching.specs.Loop.{State, Tied}
 use Rattle.matching.proofs.Heads.{some-first, first-in}
 use Rattle.matching.proofs.Sets.{some-set}
 use Rattle.matching.proofs.Ask.{nobody-asks}
@@ -68,7 +68,7 @@ nothings-at [] h i = refl
 nothings-at (x ∷ l) h zero = is-nothing x (and-parts (isNothing x) (nothings l) h .0)
 nothings-at (x ∷ l) h (suc i) = nothings-at l (and-parts (isNothing x) (nothings l) h .1) i
 
-pub begins : (n : ℕ) (b : Box) (t : Firsts) → Ties t n b → (choice : List Arrival) → nothings choice ≡ true → (asking : ℕ) → ((p : ℕ) → isSet asking p ≡ (ltb p n && not (eqb (getD (t .waiting) p 0) 0))) → Tied n b (afterAsks 0 n b) choice (t .waiting) asking × (afterAsks 0 n b .asks ≡ 0)
+pub begins : (n : ℕ) (b : Box) (t : Firsts) → Ties t n b → (choice : List Arrival) → nothings choice ≡ true → (asking : ℕ) → ((p : ℕ) → isSet asking p ≡ (ltb p n && not (eqb (getD (t .waiting) p 0) 0))) → Tied n b (afterAsks 0 n b) (record { choice = choice; askable = t .waiting; asking = asking }) × (afterAsks 0 n b .asks ≡ 0)
 unfolding afterAsks
 begins n b t ties choice none asking h = (
   record {
@@ -110,8 +110,8 @@ shown-small n fits b t ties i None f = tt
 shown-small n fits b t ties i (Some c) f =
     let g = first-in (c .output) (b .waiting i) c (f c refl) in omega (arith, ties .placed i c (g .0) .2)
 
-pub choice-small : (n : ℕ) → n ≤ 32 → (b : Box) (t : Firsts) → Ties t n b → (s : Finding) (choice : List Arrival) (askable : List ℕ) (asking : ℕ) → Tied n b s choice askable asking → (i : ℕ) → Small (getD choice i Nothing)
-choice-small n fits b t ties s choice askable asking tied i =
+pub choice-small : (n : ℕ) → n ≤ 32 → (b : Box) (t : Firsts) → Ties t n b → (s : Finding) (st : State) → Tied n b s st → (i : ℕ) → Small (getD (st .choice) i Nothing)
+choice-small n fits b t ties s st tied i =
     subst (λ z. Small z) (sym (tied .keeps i)) (shown-small n fits b t ties i (s .kept i) (tied .leads i))
 
 pub cond-small : (r x y : Arrival) (w : Bool) → r ≡ cond w x y → Small x → Small y → Small r
@@ -127,16 +127,16 @@ kept-nobody n b t ties i l (Some c) f =
     (let g = first-in (c .output) (b .waiting i) c (f c refl) in
     omega (arith, ties .placed i c (g .0) .1))
 
-pub ends : (n : ℕ) (b : Box) (t : Firsts) → Ties t n b → (k : ℕ) (r : Found) (askable : List ℕ) (asking : ℕ) → Tied n b (afterAsks k n b) (r .choice) askable asking → asking ≡ 0 → afterAsks k n b .asks ≡ r .asks → Finds r n b
-ends n b t ties k r askable asking tied e a =
-    let here = nobody-asks n b t ties (afterAsks k n b) (r .choice) askable asking tied e in
+pub ends : (n : ℕ) (b : Box) (t : Firsts) → Ties t n b → (k : ℕ) (r : Found) (st : State) → Tied n b (afterAsks k n b) st → r .choice ≡ st .choice → st .asking ≡ 0 → afterAsks k n b .asks ≡ r .asks → Finds r n b
+ends n b t ties k r st tied same e a =
+    let here = nobody-asks n b t ties (afterAsks k n b) st tied e in
     let there = finding-ends n b (ties .placed) in
     let p = pairs n b in
     let q : afterAsks k n b ≡ afterAsks p n b =
     sym (ended-stays n b k here p) ∙ (ap (λ z. afterAsks z n b) (add-comm p k) ∙ ended-stays n b p there k) in
     record {
-      sends = λ i. tied .keeps i ∙ ap (λ z. shown (z .kept i)) q;
+      sends = λ i. ap (λ z. getD z i Nothing) same ∙ (tied .keeps i ∙ ap (λ z. shown (z .kept i)) q);
       leading = λ i c h. tied .leads i c (ap (λ z. z .kept i) q ∙ h);
-      nobody = λ i l. tied .keeps i ∙ kept-nobody n b t ties i l (afterAsks k n b .kept i) (tied .leads i);
+      nobody = λ i l. ap (λ z. getD z i Nothing) same ∙ (tied .keeps i ∙ kept-nobody n b t ties i l (afterAsks k n b .kept i) (tied .leads i));
       counted = sym a ∙ ap (λ z. z .asks) q;
     }

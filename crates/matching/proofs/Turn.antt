@@ -24,7 +24,7 @@ use Rattle.matching.specs.declared.Firsts.{Firsts}
 use Rattle.matching.specs.Bits.{isSet, Lowest}
 use Rattle.matching.specs.Table.{Ties, firstFor, shown}
 use Rattle.matching.specs.Asking.{names, prefersIn, Earliest}
-use Rattle.matching.specs.Loop.{mayAsk, Tied}
+use Rattle.matching.specs.Loop.{mayAsk, State, Tied, turned, Turn}
 use Rattle.matching.proofs.Ask.{asker, asked-cell, asked-next}
 
 -- no two inputs keep for one output
@@ -81,7 +81,7 @@ names-shown p None = refl
 names-shown p (Some c) = refl
 
 -- what changes when input i, asked for cell c by output o, keeps w and refuses l
-module _ (n : ℕ) (b : Box) (s v : Finding) (good : Good b s) (choice : List Arrival) (askable : List ℕ) (asking : ℕ) (tied : Tied n b s choice askable asking) (c : Cell) (o i : ℕ) (is-for : c .output ≡ o) (l-i : i < n) (in-choice : i < length choice) (in-askable : o < length askable) (leads-c : firstFor o (b .waiting i) ≡ Some c) (discontent : content n o s ≡ false) (w l : Option Cell) (either : ((w ≡ Some c) × (l ≡ s .kept i)) ⊎ ((w ≡ s .kept i) × (l ≡ Some c))) (keeps-w : (j : ℕ) → v .kept j ≡ cond (eqb j i) w (s .kept j)) (refuses-l : (j p : ℕ) → v .refused j p ≡ ((eqb j i && isFor p l) || s .refused j p)) where
+module _ (n : ℕ) (b : Box) (s v : Finding) (good : Good b s) (st : State) (tied : Tied n b s st) (c : Cell) (o i : ℕ) (is-for : c .output ≡ o) (l-i : i < n) (in-choice : i < length (st .choice)) (in-askable : o < length (st .askable)) (leads-c : firstFor o (b .waiting i) ≡ Some c) (discontent : content n o s ≡ false) (w l : Option Cell) (either : ((w ≡ Some c) × (l ≡ s .kept i)) ⊎ ((w ≡ s .kept i) × (l ≡ Some c))) (keeps-w : (j : ℕ) → v .kept j ≡ cond (eqb j i) w (s .kept j)) (refuses-l : (j p : ℕ) → v .refused j p ≡ ((eqb j i && isFor p l) || s .refused j p)) where
   -- which of the two is for which output
   either-for : (p : ℕ) → ((isFor p w ≡ eqb o p) × (isFor p l ≡ isFor p (s .kept i))) ⊎ ((isFor p w ≡ isFor p (s .kept i)) × (isFor p l ≡ eqb o p))
   either-for p =
@@ -91,13 +91,13 @@ module _ (n : ℕ) (b : Box) (s v : Finding) (good : Good b s) (choice : List Ar
         | inr e ↦ inr (ap (λ z. isFor p z) (e .0), ap (λ z. isFor p z) (e .1) ∙ k)
       ]
 
-  turn-keeps : (j : ℕ) → getD (set choice i (shown w)) j Nothing ≡ shown (v .kept j)
+  turn-keeps : (j : ℕ) → getD (set (st .choice) i (shown w)) j Nothing ≡ shown (v .kept j)
   turn-keeps j =
       elim (cases-eq j i) [
         | inl q ↦
-            ap (λ z. getD (set choice i (shown w)) z Nothing) q ∙ (getD-set-same choice i (shown w) Nothing in-choice ∙ ap (λ z. shown z) (sym (keeps-w j ∙ ap (λ z. cond z w (s .kept j)) (eq-eqb j i q))))
+            ap (λ z. getD (set (st .choice) i (shown w)) z Nothing) q ∙ (getD-set-same (st .choice) i (shown w) Nothing in-choice ∙ ap (λ z. shown z) (sym (keeps-w j ∙ ap (λ z. cond z w (s .kept j)) (eq-eqb j i q))))
         | inr q ↦
-            getD-set-other choice i j (shown w) Nothing q ∙ (tied .keeps j ∙ ap (λ z. shown z) (sym (keeps-w j ∙ ap (λ z. cond z w (s .kept j)) (ne-eqb j i q))))
+            getD-set-other (st .choice) i j (shown w) Nothing q ∙ (tied .keeps j ∙ ap (λ z. shown z) (sym (keeps-w j ∙ ap (λ z. cond z w (s .kept j)) (ne-eqb j i q))))
       ]
 
   turn-leads : (j : ℕ) (d : Cell) → v .kept j ≡ Some d → firstFor (d .output) (b .waiting j) ≡ Some d
@@ -112,15 +112,15 @@ module _ (n : ℕ) (b : Box) (s v : Finding) (good : Good b s) (choice : List Ar
         | inr q ↦ tied .leads j d (sym (keeps-w j ∙ ap (λ z. cond z w (s .kept j)) (ne-eqb j i q)) ∙ h)
       ]
 
-  module _ (row : ℕ) (row-is : (j : ℕ) → isSet row j ≡ (not (eqb j i) && isSet (getD askable o 0) j)) where
-    row-at : (p : ℕ) → ((p ≡ o) × (getD (set askable o row) p 0 ≡ row)) ⊎ ((p ≡ o → ⊥) × (getD (set askable o row) p 0 ≡ getD askable p 0))
+  module _ (row : ℕ) (row-is : (j : ℕ) → isSet row j ≡ (not (eqb j i) && isSet (getD (st .askable) o 0) j)) where
+    row-at : (p : ℕ) → ((p ≡ o) × (getD (set (st .askable) o row) p 0 ≡ row)) ⊎ ((p ≡ o → ⊥) × (getD (set (st .askable) o row) p 0 ≡ getD (st .askable) p 0))
     row-at p =
         elim (cases-eq p o) [
-          | inl q ↦ inl (q, ap (λ z. getD (set askable o row) z 0) q ∙ getD-set-same askable o row 0 in-askable)
-          | inr q ↦ inr (q, getD-set-other askable o p row 0 q)
+          | inl q ↦ inl (q, ap (λ z. getD (set (st .askable) o row) z 0) q ∙ getD-set-same (st .askable) o row 0 in-askable)
+          | inr q ↦ inr (q, getD-set-other (st .askable) o p row 0 q)
         ]
 
-    turn-left : (j p : ℕ) → isSet (getD (set askable o row) p 0) j ≡ mayAsk b v j p
+    turn-left : (j p : ℕ) → isSet (getD (set (st .askable) o row) p 0) j ≡ mayAsk b v j p
     turn-left j p =
         let k : isFor p (v .kept j) ≡ cond (eqb j i) (isFor p w) (isFor p (s .kept j)) = go (eqb j i) (keeps-w j) in
         let r = refuses-l j p in
@@ -129,12 +129,12 @@ module _ (n : ℕ) (b : Box) (s v : Finding) (good : Good b s) (choice : List Ar
         let at-i : j ≡ i → isFor p (s .kept j) ≡ isFor p (s .kept i) = λ q. ap (λ z. isFor p (s .kept z)) q in
         elim (row-at p) [
           | inl q ↦
-              (let x : isSet (getD (set askable o row) p 0) j ≡ (not (eqb j i) && isSet (getD askable p 0) j) =
-              ap (λ z. isSet z j) (q .1) ∙ (row-is j ∙ ap (λ z. not (eqb j i) && isSet (getD askable z 0) j) (sym (q .0))) in
+              (let x : isSet (getD (set (st .askable) o row) p 0) j ≡ (not (eqb j i) && isSet (getD (st .askable) p 0) j) =
+              ap (λ z. isSet z j) (q .1) ∙ (row-is j ∙ ap (λ z. not (eqb j i) && isSet (getD (st .askable) z 0) j) (sym (q .0))) in
               let y = eq-eqb o p (sym (q .0)) in
               grind (arith, tells, x, y, k, r, e, was, at-i))
           | inr q ↦
-              (let x : isSet (getD (set askable o row) p 0) j ≡ isSet (getD askable p 0) j = ap (λ z. isSet z j) (q .1) in
+              (let x : isSet (getD (set (st .askable) o row) p 0) j ≡ isSet (getD (st .askable) p 0) j = ap (λ z. isSet z j) (q .1) in
               let y = ne-eqb o p (λ z. q .0 (sym z)) in
               grind (arith, tells, x, y, k, r, e, was, at-i))
         ]
@@ -143,7 +143,7 @@ module _ (n : ℕ) (b : Box) (s v : Finding) (good : Good b s) (choice : List Ar
         go true h = ap (λ z. isFor p z) h
         go false h = ap (λ z. isFor p z) h
 
-    turn-asks : (asks-now : ℕ) → ((p : ℕ) → isSet asks-now p ≡ ((names p (shown l) && not (eqb (getD (set askable o row) p 0) 0)) || (not (eqb p o) && isSet asking p))) → (p : ℕ) → isSet asks-now p ≡ (not (content n p v) && not (eqb (getD (set askable o row) p 0) 0))
+    turn-asks : (asks-now : ℕ) → ((p : ℕ) → isSet asks-now p ≡ ((names p (shown l) && not (eqb (getD (set (st .askable) o row) p 0) 0)) || (not (eqb p o) && isSet (st .asking) p))) → (p : ℕ) → isSet asks-now p ≡ (not (content n p v) && not (eqb (getD (set (st .askable) o row) p 0) 0))
     turn-asks asks-now h p =
         let a = h p in
         let m = names-shown p l in
@@ -160,11 +160,11 @@ module _ (n : ℕ) (b : Box) (s v : Finding) (good : Good b s) (choice : List Ar
           | inr q ↦
               (let y = ne-eqb o p (λ z. q .0 (sym z)) in
               let y2 = ne-eqb p o (q .0) in
-              let x : eqb (getD (set askable o row) p 0) 0 ≡ eqb (getD askable p 0) 0 = ap (λ z. eqb z 0) (q .1) in
+              let x : eqb (getD (set (st .askable) o row) p 0) 0 ≡ eqb (getD (st .askable) p 0) 0 = ap (λ z. eqb z 0) (q .1) in
               grind (arith, a, m, was, t, e, kept-content, y, y2, x))
         ]
 
-    pub turn : (asks-now : ℕ) → ((p : ℕ) → isSet asks-now p ≡ ((names p (shown l) && not (eqb (getD (set askable o row) p 0) 0)) || (not (eqb p o) && isSet asking p))) → Tied n b v (set choice i (shown w)) (set askable o row) asks-now
+    pub turn : (asks-now : ℕ) → ((p : ℕ) → isSet asks-now p ≡ ((names p (shown l) && not (eqb (getD (set (st .askable) o row) p 0) 0)) || (not (eqb p o) && isSet (st .asking) p))) → Tied n b v (turned st o i (shown w) row asks-now)
     turn asks-now h =
         record { keeps = turn-keeps; leads = turn-leads; left = turn-left; asks = turn-asks asks-now h }
 
@@ -188,42 +188,49 @@ prefers-in n b t ties c i o ci f (Some d) g =
     ap (λ z. ltb z (getD (t .places) (i * 32 + d .output) 0)) p ∙ ap (λ z. ltb (ahead c (b .waiting (c .input))) z) q
 
 -- the turn is the model's ask
-module _ (n : ℕ) (fits : n ≤ 32) (b : Box) (t : Firsts) (ties : Ties t n b) (s : Finding) (good : Good b s) (choice : List Arrival) (askable : List ℕ) (asking : ℕ) (tied : Tied n b s choice askable asking) (all-choice : length choice ≡ 32) (all-askable : length askable ≡ 32) (o i : ℕ) (low : Lowest asking o) (best : Earliest (t .slots) o (getD askable o 0) i) where
-  -- whether the input keeps the cell for which it is asked
-  abbrev wins : Bool
-  wins = prefersIn (t .places) i o (getD choice i Nothing)
-
-  pub asked-turn : (keeps refuses : Arrival) → keeps ≡ cond wins (For o) (getD choice i Nothing) → refuses ≡ cond wins (getD choice i Nothing) (For o) → (row : ℕ) → ((j : ℕ) → isSet row j ≡ (not (eqb j i) && isSet (getD askable o 0) j)) → (asks-now : ℕ) → ((p : ℕ) → isSet asks-now p ≡ ((names p refuses && not (eqb (getD (set askable o row) p 0) 0)) || (not (eqb p o) && isSet asking p))) → Tied n b (asked b (nextAsk n n b s) s) (set choice i keeps) (set askable o row) asks-now × (asked b (nextAsk n n b s) s .asks ≡ suc (s .asks))
-  asked-turn keeps refuses ke re row row-is asks-now h =
-      let a = asked-cell n b t ties s choice askable asking tied o i (best .among) in
+module _ (n : ℕ) (fits : n ≤ 32) (b : Box) (t : Firsts) (ties : Ties t n b) (s : Finding) (good : Good b s) (st : State) (tied : Tied n b s st) (all-choice : length (st .choice) ≡ 32) (all-askable : length (st .askable) ≡ 32) where
+  pub asked-turn : (o i : ℕ) (keeps refuses : Arrival) (row now : ℕ) → Turn t st o i keeps refuses row now → Tied n b (asked b (nextAsk n n b s) s) (turned st o i keeps row now) × (asked b (nextAsk n n b s) s .asks ≡ suc (s .asks))
+  asked-turn o i keeps refuses row now step =
+      let low = step .low in
+      let best = step .best in
+      let a = asked-cell n b t ties s st tied o i (best .among) in
       let c = a .0 in
       let f = a .1 in
       let co = a .3 in
       let ci = a .4 in
       let li = a .5 in
-      let next = asked-next n b t ties s choice askable asking tied fits o i low best c f (a .2) co ci li (a .6) (a .7) in
-      let dis = asker n b t ties s choice askable asking tied o (low .here) .0 in
+      let next = asked-next n b t ties s st tied fits o i low best c f (a .2) co ci li (a .6) (a .7) in
+      let dis = asker n b t ties s st tied o (low .here) .0 in
       let x = s .kept (c .input) in
-      let before : getD choice i Nothing ≡ shown x = tied .keeps i ∙ ap (λ z. shown (s .kept z)) (sym ci) in
+      let before : getD (st .choice) i Nothing ≡ shown x = tied .keeps i ∙ ap (λ z. shown (s .kept z)) (sym ci) in
+      let wins = prefersIn (t .places) i o (getD (st .choice) i Nothing) in
       let same-test : wins ≡ prefers b c x =
       ap (λ z. prefersIn (t .places) i o z) before ∙ prefers-in n b t ties c i o ci f x (λ d e. tied .leads i d (ap (λ z. s .kept z) (sym ci) ∙ e)) in
       let yes : Finding =
       record { kept = keeping (c .input) c (s .kept); refused = refusing (c .input) x (s .refused); asks = suc (s .asks) } in
       let no : Finding =
       record { kept = s .kept; refused = refusing (c .input) (Some c) (s .refused); asks = suc (s .asks) } in
-      let step = turn n b s in
-      subst (λ z. Tied n b (asked b z s) (set choice i keeps) (set askable o row) asks-now × (asked b z s .asks ≡ suc (s .asks))) (sym next)
+      let Again : Arrival → Type 0 =
+      λ z. (p : ℕ) → isSet now p ≡ ((names p z && not (eqb (getD (set (st .askable) o row) p 0) 0)) || (not (eqb p o) && isSet (st .asking) p)) in
+      let Next : Finding → Type 0 = λ v. Tied n b v (turned st o i keeps row now) × (v .asks ≡ suc (s .asks)) in
+      let there-i : i < length (st .choice) = omega (arith, best .small) in
+      let there-o : o < length (st .askable) = omega (arith, low .small) in
+      subst (λ z. Next (asked b z s)) (sym next)
       (elim (cases-bool wins) [
         | inl e ↦
-            (let k : keeps ≡ shown (Some c) = ke ∙ (ap (λ z. cond z (For o) (getD choice i Nothing)) e ∙ ap (λ z. For z) (sym co)) in
-            let r : refuses ≡ shown (s .kept i) = re ∙ (ap (λ z. cond z (getD choice i Nothing) (For o)) e ∙ tied .keeps i) in
-            let g = step yes good choice askable asking tied c o i co li (omega (arith, best .small)) (omega (arith, low .small)) f dis (Some c) (s .kept i) (inl (refl, refl)) (λ j. ap (λ z. cond (eqb j z) (Some c) (s .kept j)) ci) (λ j p. refusing-is (c .input) x (s .refused) j p ∙ ap (λ z. (eqb j z && isFor p (s .kept z)) || s .refused j p) ci) row row-is asks-now (subst (λ z. (p : ℕ) → isSet asks-now p ≡ ((names p z && not (eqb (getD (set askable o row) p 0) 0)) || (not (eqb p o) && isSet asking p))) r h) in
-            subst (λ z. Tied n b (cond z yes no) (set choice i keeps) (set askable o row) asks-now × (cond z yes no .asks ≡ suc (s .asks))) (sym e ∙ same-test)
-            (subst (λ z. Tied n b yes (set choice i z) (set askable o row) asks-now) (sym k) g, refl))
+            (let k : keeps ≡ shown (Some c) = step .one ∙ (ap (λ z. cond z (For o) (getD (st .choice) i Nothing)) e ∙ ap (λ z. For z) (sym co)) in
+            let r : refuses ≡ shown (s .kept i) = step .other ∙ (ap (λ z. cond z (getD (st .choice) i Nothing) (For o)) e ∙ tied .keeps i) in
+            let keeps-w : (j : ℕ) → yes .kept j ≡ cond (eqb j i) (Some c) (s .kept j) =
+            λ j. ap (λ z. cond (eqb j z) (Some c) (s .kept j)) ci in
+            let refuses-l : (j p : ℕ) → yes .refused j p ≡ ((eqb j i && isFor p (s .kept i)) || s .refused j p) =
+            λ j p. refusing-is (c .input) x (s .refused) j p ∙ ap (λ z. (eqb j z && isFor p (s .kept z)) || s .refused j p) ci in
+            let g = turn n b s yes good st tied c o i co li there-i there-o f dis (Some c) (s .kept i) (inl (refl, refl)) keeps-w refuses-l row (step .cleared) now (subst (λ z. Again z) r (step .again)) in
+            subst (λ z. Next (cond z yes no)) (sym e ∙ same-test) (subst (λ z. Tied n b yes (turned st o i z row now)) (sym k) g, refl))
         | inr e ↦
-            (let k : keeps ≡ shown (s .kept i) = ke ∙ (ap (λ z. cond z (For o) (getD choice i Nothing)) e ∙ tied .keeps i) in
-            let r : refuses ≡ shown (Some c) = re ∙ (ap (λ z. cond z (getD choice i Nothing) (For o)) e ∙ ap (λ z. For z) (sym co)) in
-            let g = step no good choice askable asking tied c o i co li (omega (arith, best .small)) (omega (arith, low .small)) f dis (s .kept i) (Some c) (inr (refl, refl)) (λ j. kept-same i j (s .kept)) (λ j p. ap (λ z. (eqb j z && eqb (c .output) p) || s .refused j p) ci) row row-is asks-now (subst (λ z. (p : ℕ) → isSet asks-now p ≡ ((names p z && not (eqb (getD (set askable o row) p 0) 0)) || (not (eqb p o) && isSet asking p))) r h) in
-            subst (λ z. Tied n b (cond z yes no) (set choice i keeps) (set askable o row) asks-now × (cond z yes no .asks ≡ suc (s .asks))) (sym e ∙ same-test)
-            (subst (λ z. Tied n b no (set choice i z) (set askable o row) asks-now) (sym k) g, refl))
+            (let k : keeps ≡ shown (s .kept i) = step .one ∙ (ap (λ z. cond z (For o) (getD (st .choice) i Nothing)) e ∙ tied .keeps i) in
+            let r : refuses ≡ shown (Some c) = step .other ∙ (ap (λ z. cond z (getD (st .choice) i Nothing) (For o)) e ∙ ap (λ z. For z) (sym co)) in
+            let refuses-l : (j p : ℕ) → no .refused j p ≡ ((eqb j i && isFor p (Some c)) || s .refused j p) =
+            λ j p. ap (λ z. (eqb j z && eqb (c .output) p) || s .refused j p) ci in
+            let g = turn n b s no good st tied c o i co li there-i there-o f dis (s .kept i) (Some c) (inr (refl, refl)) (λ j. kept-same i j (s .kept)) refuses-l row (step .cleared) now (subst (λ z. Again z) r (step .again)) in
+            subst (λ z. Next (cond z yes no)) (sym e ∙ same-test) (subst (λ z. Tied n b no (turned st o i z row now)) (sym k) g, refl))
       ])

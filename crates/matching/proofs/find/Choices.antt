@@ -11,7 +11,7 @@ abbrev pub Inv-asks : given.InvT-asks
 Inv-asks l =
     (length (l .choice) ≡ 32)
     × (length (l .askable) ≡ 32)
-    × ((b : Box) → Ties (l .firsts) (l .n) b → Tied (l .n) b (afterAsks (l .asks) (l .n) b) (l .choice) (l .askable) (l .asking) × (afterAsks (l .asks) (l .n) b .asks ≡ l .asks))
+    × ((b : Box) → Ties (l .firsts) (l .n) b → Tied (l .n) b (afterAsks (l .asks) (l .n) b) (record { choice = l .choice; askable = l .askable; asking = l .asking }) × (afterAsks (l .asks) (l .n) b .asks ≡ l .asks))
 
 abbrev pub μ-asks : given.MeasureT-asks
 μ-asks l = sumBy (λ x. x) (l .askable)
