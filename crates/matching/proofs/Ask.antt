@@ -1,28 +1,25 @@
 -- Who asks next and for which cell, as the table and the sets tell it.
 use mathlib.Core.Path.{_≡_, refl, ap, sym, _∙_, subst}
-use mathlib.Core.Bool.{Bool, true, false, cond, _&&_, _||_, not}
-use mathlib.Core.List.{List, [], _∷_}
-use mathlib.Core.Logic.{_⊎_, inl, inr}
+use mathlib.Core.Bool.{true, false, cond, not}
+use mathlib.Core.Logic.{inl, inr}
 use Prim.Native.Nat.{ℕ, zero, suc, _+_, _*_, _<_, _≤_}
 use native.Mathlib.Omega.{arith}
-use lib.Dec.{eqb, ltb}
 use lib.ListN.{getD}
 use Rattle.std.specs.declared.option.Option.{Option}
 use Rattle.std.specs.declared.option.Option.the-variants.{Some, None}
 use Rattle.std.proofs.shelf.Tests.{cases-bool, cases-lt, both-ways, eqb-true, eq-eqb, lt-ltb}
 use Rattle.std.proofs.shelf.Ways.{tells}
-use Rattle.crossbox.specs.declared.Arrival.{Arrival}
 use Rattle.crossbox.specs.declared.Cell.{Cell}
-use Rattle.crossbox.specs.Cells.{earlier, same, isIn, ahead, earliest}
+use Rattle.crossbox.specs.Cells.{earlier, same, isIn, earliest}
 use Rattle.crossbox.specs.Box.{Box, forOutput}
-use Rattle.crossbox.specs.Matching.{Finding, isFor, content, unrefused, wanted, orElse, nextAsk, some, waitsAt, Ended}
+use Rattle.crossbox.specs.Matching.{Finding, content, unrefused, wanted, orElse, nextAsk, some, Ended}
 use Rattle.crossbox.proofs.Cells.{same-eq, earlier-other}
-use Rattle.crossbox.proofs.Asking.{some-eq, some-none, earliest-in, earliest-none, earliest-least, content-none, isIn-unrefused, next-ended}
+use Rattle.crossbox.proofs.Asking.{earliest-in, earliest-none, earliest-least, content-none, isIn-unrefused, next-ended}
 use Rattle.matching.specs.declared.Firsts.{Firsts}
 use Rattle.matching.specs.Bits.{isSet, Lowest}
 use Rattle.matching.specs.Table.{Ties, firstFor}
 use Rattle.matching.specs.Asking.{keyOf, Earliest}
-use Rattle.matching.specs.Loop.{mayAsk, State, Tied}
+use Rattle.matching.specs.Loop.{State, Tied}
 use Rattle.matching.proofs.Heads.{some-first, some-for, first-in, first-ahead}
 use Rattle.matching.proofs.Sets.{none-set}
 

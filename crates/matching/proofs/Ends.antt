@@ -1,13 +1,12 @@
 -- Where the loop begins, and what it has found when nobody asks.
-use mathlib.Core.Path.{_≡_, refl, ap, sym, _∙_, subst}
-use mathlib.Core.Bool.{Bool, true, false, cond, _&&_, _||_, not}
+use mathlib.Core.Path.{_≡_, refl, ap, ap₂, sym, _∙_, subst}
+use mathlib.Core.Bool.{Bool, true, false, cond, _&&_, not}
 use mathlib.Core.List.{List, [], _∷_}
-use mathlib.Core.Logic.{_⊎_, inl, inr}
-use Prim.Native.Nat.{ℕ, zero, suc, _+_, _*_, _<_, _≤_}
+use Prim.Native.Nat.{ℕ, zero, suc, _*_, _<_, _≤_}
 use native.Mathlib.Nat.{add-comm, suc-mul}
 use native.Mathlib.Omega.{arith}
 use lib.Dec.{eqb, ltb}
-use lib.ListN.{length, getD, replicate}
+use lib.ListN.{getD}
 use Rattle.std.specs.declared.option.Option.{Option}
 use Rattle.std.specs.declared.option.Option.the-variants.{Some, None}
 use Rattle.std.proofs.shelf.Bits.{mul-le}
@@ -16,17 +15,17 @@ use Rattle.std.proofs.shelf.Ways.{tells}
 use Rattle.crossbox.specs.declared.Arrival.{Arrival}
 use Rattle.crossbox.specs.declared.Arrival.the-variants.{Nothing, For}
 use Rattle.crossbox.specs.declared.Cell.{Cell}
-use Rattle.crossbox.specs.Box.{Box, forOutput}
-use Rattle.crossbox.specs.Matching.{Finding, unasked, content, afterAsks, count, countPairs, some, waitsAt, pairs, Ended}
-use Rattle.crossbox.proofs.Asking.{some-none, content-some}
+use Rattle.crossbox.specs.Box.{Box}
+use Rattle.crossbox.specs.Matching.{Finding, unasked, content, afterAsks, count, countPairs, waitsAt, pairs, withKept, chosen}
+use Rattle.crossbox.proofs.Asking.{some-none}
 use Rattle.crossbox.proofs.Asks.{asks-are-few, finding-ends, ended-stays}
 use Rattle.matching.specs.declared.Firsts.{Firsts}
 use Rattle.matching.specs.declared.Found.{Found}
-use Rattle.matching.specs.Bits.{isSet, Lowest}
-use Rattle.matching.specs.Table.{Ties, Finds, firstFor, shown}
+use Rattle.matching.specs.Bits.{isSet}
+use Rattle.matching.specs.Table.{Ties, Finds, firstFor, shown, picked, picks}
 use Rattle.matching.specs.Asking.{Small}
 use Rattle.matching.specs.Loop.{State, Tied}
-use Rattle.matching.proofs.Heads.{some-first, first-in}
+use Rattle.matching.proofs.Heads.{first-in, waits-below}
 use Rattle.matching.proofs.Sets.{some-set}
 use Rattle.matching.proofs.Ask.{nobody-asks}
 
@@ -37,18 +36,12 @@ unfolding content
 content-unasked zero p = refl
 content-unasked (suc n) p = content-unasked n p
 
--- an output with a set bit in its number is one of the first n
-waiting-below : (n : ℕ) (b : Box) (t : Firsts) → Ties t n b → (o i : ℕ) → isSet (getD (t .waiting) o 0) i ≡ true → o < n
-waiting-below n b t ties o i h =
-    let f = some-first (forOutput o (b .waiting i)) (sym (ties .waits i o) ∙ h) in
-    let g = first-in o (b .waiting i) (f .0) (f .1) in
-    subst (λ z. z < n) (g .1) (ties .placed i (f .0) (g .0) .2)
-
+-- an output for which any cell waits is one of the first n
 waiting-test : (n : ℕ) (b : Box) (t : Firsts) → Ties t n b → (p : ℕ) → not (eqb (getD (t .waiting) p 0) 0) ≡ true → ltb p n ≡ true
 waiting-test n b t ties p h =
     let x : 0 < getD (t .waiting) p 0 = grind (arith, tells, h) in
     let k = some-set (getD (t .waiting) p 0) x in
-    lt-ltb p n (waiting-below n b t ties p (k .0) (k .1))
+    lt-ltb p n (waits-below n b (ties .placed) (k .0) p (sym (ties .waits (k .0) p) ∙ k .1) .1)
 
 abbrev isNothing : Arrival → Bool
 isNothing Nothing = true
@@ -127,6 +120,17 @@ kept-nobody n b t ties i l (Some c) f =
     (let g = first-in (c .output) (b .waiting i) c (f c refl) in
     omega (arith, ties .placed i c (g .0) .1))
 
+picked-is : (l : List Cell) (x : Option Cell) → ((c : Cell) → x ≡ Some c → firstFor (c .output) l ≡ Some c) → picked (shown x) l ≡ x
+picked-is l None f = refl
+picked-is l (Some c) f = f c refl
+
+-- the cells that the choice names are those that are kept
+picks-are : (k : ℕ) (b : Box) (choice : List Arrival) (s : Finding) → ((i : ℕ) → getD choice i Nothing ≡ shown (s .kept i)) → ((i : ℕ) (c : Cell) → s .kept i ≡ Some c → firstFor (c .output) (b .waiting i) ≡ Some c) → picks k choice b ≡ chosen k s
+unfolding picks chosen
+picks-are zero b choice s f g = refl
+picks-are (suc k) b choice s f g =
+    ap₂ (λ x y. withKept x y) (ap (λ z. picked z (b .waiting k)) (f k) ∙ picked-is (b .waiting k) (s .kept k) (g k)) (picks-are k b choice s f g)
+
 pub ends : (n : ℕ) (b : Box) (t : Firsts) → Ties t n b → (k : ℕ) (r : Found) (st : State) → Tied n b (afterAsks k n b) st → r .choice ≡ st .choice → st .asking ≡ 0 → afterAsks k n b .asks ≡ r .asks → Finds r n b
 ends n b t ties k r st tied same e a =
     let here = nobody-asks n b t ties (afterAsks k n b) st tied e in
@@ -135,6 +139,7 @@ ends n b t ties k r st tied same e a =
     let q : afterAsks k n b ≡ afterAsks p n b =
     sym (ended-stays n b k here p) ∙ (ap (λ z. afterAsks z n b) (add-comm p k) ∙ ended-stays n b p there k) in
     record {
+      cells = ap (λ z. picks n z b) same ∙ (picks-are n b (st .choice) (afterAsks k n b) (tied .keeps) (tied .leads) ∙ ap (λ z. chosen n z) q);
       sends = λ i. ap (λ z. getD z i Nothing) same ∙ (tied .keeps i ∙ ap (λ z. shown (z .kept i)) q);
       leading = λ i c h. tied .leads i c (ap (λ z. z .kept i) q ∙ h);
       nobody = λ i l. ap (λ z. getD z i Nothing) same ∙ (tied .keeps i ∙ kept-nobody n b t ties i l (afterAsks k n b .kept i) (tied .leads i));

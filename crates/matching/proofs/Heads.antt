@@ -1,21 +1,20 @@
 -- Laws of the first cell for an output in a list.
 use mathlib.Core.Path.{_≡_, refl, ap, sym, _∙_, subst}
-use mathlib.Core.Bool.{Bool, true, false, cond, _&&_, _||_, not}
+use mathlib.Core.Bool.{true, cond}
 use mathlib.Core.List.{List, [], _∷_}
-use mathlib.Core.Logic.{_⊎_, inl, inr}
-use Prim.Native.Nat.{ℕ, suc, _+_, _<_, _≤_}
+use mathlib.Core.Logic.{inl, inr}
+use Prim.Native.Nat.{ℕ, _<_, _≤_}
 use native.Mathlib.Omega.{arith}
 use lib.Dec.{eqb}
-use Rattle.std.specs.declared.option.Option.{Option}
-use Rattle.std.specs.declared.option.Option.the-variants.{Some, None}
+use Rattle.std.specs.declared.option.Option.the-variants.{Some}
 use Rattle.std.proofs.shelf.Tests.{cases-bool, eqb-true, eq-eqb}
-use Rattle.std.proofs.shelf.Ways.{tells}
 use Rattle.crossbox.specs.declared.Cell.{Cell}
 use Rattle.crossbox.specs.Cells.{same, isIn, ahead}
 use Rattle.crossbox.specs.Ideal.{first}
-use Rattle.crossbox.specs.Box.{forOutput}
-use Rattle.crossbox.specs.Matching.{some}
-use Rattle.crossbox.proofs.Cells.{same-refl, same-eq, same-output}
+use Rattle.crossbox.specs.Box.{Box, forOutput}
+use Rattle.crossbox.specs.Shape.{WellPlaced}
+use Rattle.crossbox.specs.Matching.{some, waitsAt}
+use Rattle.crossbox.proofs.Cells.{same-refl, same-output}
 use Rattle.crossbox.proofs.Lists.{isIn-forOutput}
 use Rattle.crossbox.proofs.Asking.{some-eq, some-none}
 use Rattle.matching.specs.Table.{firstFor}
@@ -66,3 +65,11 @@ first-ahead o (e ∷ l) c d h i q =
           let ih = first-ahead o l c d g in
           grind (arith, no, t, ih, q))
     ]
+
+-- where a cell waits for an output, the input and the output are among the first n
+pub waits-below : (n : ℕ) (b : Box) → WellPlaced n b → (i o : ℕ) → waitsAt b i o ≡ true → (i < n) × (o < n)
+waits-below n b placed i o h =
+    let f = some-first (forOutput o (b .waiting i)) h in
+    let g = first-in o (b .waiting i) (f .0) (f .1) in
+    let p = placed i (f .0) (g .0) in
+    (p .1, subst (λ z. z < n) (g .1) (p .2))

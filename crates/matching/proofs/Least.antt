@@ -1,14 +1,14 @@
 -- Looking through a set of inputs for the one with the least number.
-use mathlib.Core.Path.{_≡_, refl, ap, sym, _∙_, subst}
-use mathlib.Core.Bool.{Bool, true, false, _&&_, not}
+use mathlib.Core.Path.{_≡_, ap, sym, _∙_, subst}
+use mathlib.Core.Bool.{true, false, _&&_, not}
 use mathlib.Core.List.{List}
-use mathlib.Core.Logic.{_⊎_, inl, inr}
+use mathlib.Core.Logic.{inl, inr}
 use Prim.Native.Nat.{ℕ, min, _+_, _*_, _%_, _<_, _≤_}
 use native.Mathlib.Omega.{arith}
 use lib.Dec.{eqb}
 use lib.ListN.{getD}
 use Rattle.std.proofs.shelf.Bits.{mod-below, mod-mul-add}
-use Rattle.std.proofs.shelf.Tests.{cases-bool, cases-eq, both-ways, ne-eqb, eq-eqb}
+use Rattle.std.proofs.shelf.Tests.{cases-eq, both-ways, ne-eqb}
 use Rattle.matching.specs.Bits.{isSet, Lowest}
 use Rattle.matching.specs.Asking.{keyOf, Earliest, LeastSoFar}
 use Rattle.matching.proofs.Sets.{none-set}

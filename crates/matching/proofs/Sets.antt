@@ -1,13 +1,13 @@
 -- Laws of bits: the lowest that is set, and what setting or clearing one does.
 use mathlib.Core.Path.{_≡_, refl, ap, ap₂, sym, _∙_, subst}
-use mathlib.Core.Bool.{Bool, true, false, cond, _&&_, _||_, not}
-use mathlib.Core.Logic.{_⊎_, inl, inr}
-use Prim.Native.Nat.{ℕ, zero, suc, min, _+_, _-_, _*_, _/_, _%_, _^_, _<_, _≤_}
+use mathlib.Core.Bool.{true, false, cond, _&&_, _||_, not}
+use mathlib.Core.Logic.{inl, inr}
+use Prim.Native.Nat.{ℕ, zero, suc, min, _+_, _-_, _*_, _/_, _%_, _^_, _<_}
 use native.Mathlib.Nat.{div-one, zero-div, pow-suc, zero-min, min-zero}
 use native.Mathlib.Numerals.{one-add}
 use native.Mathlib.Omega.{arith}
-use lib.Dec.{eqb, ltb}
-use lib.Bits.{bitAnd, bitOr, bitXor, shifted-half, shifted-even, and-step, and-self, and-block, xor-add-and, and-zero-r}
+use lib.Dec.{eqb}
+use lib.Bits.{bitAnd, bitOr, bitXor, and-step, and-self, and-block, xor-add-and, and-zero-r}
 use lib.Count.{trailingZeros, under}
 use Rattle.std.proofs.shelf.Bits.{pow-pos, shr-shr, shr-split, or-shr, or-mod, xor-shr, xor-mod, and-mask, mod-below}
 use Rattle.std.proofs.shelf.Tests.{both-ways, cases-order, eqb-true, eq-eqb}

@@ -1,29 +1,28 @@
 -- One turn of the loop is one ask of the model.
 use mathlib.Core.Path.{_≡_, refl, ap, sym, _∙_, subst}
 use mathlib.Core.Bool.{Bool, true, false, cond, _&&_, _||_, not}
-use mathlib.Core.List.{List, [], _∷_}
 use mathlib.Core.Logic.{_⊎_, inl, inr}
-use Prim.Native.Nat.{ℕ, zero, suc, _+_, _*_, _<_, _≤_}
+use Prim.Native.Nat.{ℕ, suc, _+_, _*_, _<_, _≤_}
 use native.Mathlib.Omega.{arith}
 use lib.Dec.{eqb, ltb}
 use lib.ListN.{length, getD, set}
 use Rattle.std.specs.declared.option.Option.{Option}
 use Rattle.std.specs.declared.option.Option.the-variants.{Some, None}
 use Rattle.std.proofs.shelf.Lists.{getD-set-same, getD-set-other}
-use Rattle.std.proofs.shelf.Tests.{cases-bool, cases-eq, both-ways, eqb-true, eq-eqb, ne-eqb}
+use Rattle.std.proofs.shelf.Tests.{cases-bool, cases-eq, both-ways, eq-eqb, ne-eqb}
 use Rattle.std.proofs.shelf.Ways.{tells}
 use Rattle.crossbox.specs.declared.Arrival.{Arrival}
 use Rattle.crossbox.specs.declared.Arrival.the-variants.{Nothing, For}
 use Rattle.crossbox.specs.declared.Cell.{Cell}
-use Rattle.crossbox.specs.Cells.{isIn, ahead}
+use Rattle.crossbox.specs.Cells.{ahead}
 use Rattle.crossbox.specs.Box.{Box}
-use Rattle.crossbox.specs.Matching.{Finding, isFor, content, nextAsk, prefers, keeping, refusing, answered, asked, waitsAt}
-use Rattle.crossbox.proofs.Asking.{some-eq, some-none, isFor-some, content-some, content-none}
+use Rattle.crossbox.specs.Matching.{Finding, isFor, content, nextAsk, prefers, keeping, refusing, asked}
+use Rattle.crossbox.proofs.Asking.{some-eq, isFor-some, content-some, content-none}
 use Rattle.crossbox.proofs.Finding.{Good}
 use Rattle.matching.specs.declared.Firsts.{Firsts}
-use Rattle.matching.specs.Bits.{isSet, Lowest}
+use Rattle.matching.specs.Bits.{isSet}
 use Rattle.matching.specs.Table.{Ties, firstFor, shown}
-use Rattle.matching.specs.Asking.{names, prefersIn, Earliest}
+use Rattle.matching.specs.Asking.{names, prefersIn}
 use Rattle.matching.specs.Loop.{mayAsk, State, Tied, turned, Turn}
 use Rattle.matching.proofs.Ask.{asker, asked-cell, asked-next}
 

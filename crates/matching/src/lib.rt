@@ -17,8 +17,8 @@ use crate::bits::without;
 use crate::bits::without_lowest;
 use crossbox::Arrival;
 
-// The most inputs, and the most outputs.
-pub const LINES: usize = 32;
+// How many inputs and how many outputs the table has.
+const LINES: usize = 32;
 
 // The first waiting cell of each pair of an input i and an output o: `waiting` has bit i of its number o set where there is one,
 // `slots` its slot at o * 32 + i, and `places` how many stand ahead of it in the list of its input at i * 32 + o.

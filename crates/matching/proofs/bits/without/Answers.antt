@@ -1,4 +1,3 @@
-use native.Mathlib.Omega.{arith}
 use Prim.Native.Nat.{_*_, _^_, _%_}
 use Rattle.std.proofs.shelf.Bits.{one-shl}
 use Rattle.matching.proofs.Sets.{without-is, without-less}
