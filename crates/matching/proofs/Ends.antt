@@ -15,9 +15,10 @@ use Rattle.std.proofs.shelf.Ways.{tells}
 use Rattle.crossbox.specs.declared.Arrival.{Arrival}
 use Rattle.crossbox.specs.declared.Arrival.the-variants.{Nothing, For}
 use Rattle.crossbox.specs.declared.Cell.{Cell}
-use Rattle.crossbox.specs.Box.{Box}
-use Rattle.crossbox.specs.Matching.{Finding, unasked, content, afterAsks, count, countPairs, waitsAt, pairs, withKept, chosen}
+use Rattle.crossbox.specs.Box.{Box, Stable}
+use Rattle.crossbox.specs.Matching.{Finding, unasked, content, afterAsks, count, countPairs, waitsAt, pairs, withKept, chosen, find}
 use Rattle.crossbox.proofs.Asking.{some-none}
+use Rattle.crossbox.proofs.Promise.{found-is-stable}
 use Rattle.crossbox.proofs.Asks.{asks-are-few, finding-ends, ended-stays}
 use Rattle.matching.specs.declared.Firsts.{Firsts}
 use Rattle.matching.specs.declared.Found.{Found}
@@ -138,8 +139,11 @@ ends n b t ties k r st tied same e a =
     let p = pairs n b in
     let q : afterAsks k n b ≡ afterAsks p n b =
     sym (ended-stays n b k here p) ∙ (ap (λ z. afterAsks z n b) (add-comm p k) ∙ ended-stays n b p there k) in
+    let cells-are : picks n (r .choice) b ≡ find n b =
+    ap (λ z. picks n z b) same ∙ (picks-are n b (st .choice) (afterAsks k n b) (tied .keeps) (tied .leads) ∙ ap (λ z. chosen n z) q) in
     record {
-      cells = ap (λ z. picks n z b) same ∙ (picks-are n b (st .choice) (afterAsks k n b) (tied .keeps) (tied .leads) ∙ ap (λ z. chosen n z) q);
+      cells = cells-are;
+      stable = subst (λ z. Stable b z) (sym cells-are) (found-is-stable n b (ties .placed) (ties .order));
       sends = λ i. ap (λ z. getD z i Nothing) same ∙ (tied .keeps i ∙ ap (λ z. shown (z .kept i)) q);
       leading = λ i c h. tied .leads i c (ap (λ z. z .kept i) q ∙ h);
       nobody = λ i l. ap (λ z. getD z i Nothing) same ∙ (tied .keeps i ∙ kept-nobody n b t ties i l (afterAsks k n b .kept i) (tied .leads i));

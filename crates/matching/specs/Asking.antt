@@ -36,7 +36,7 @@ pub record LeastSoFar (slots : List ℕ) (o inputs rest least : ℕ) : Type 0 wh
   pub seen : (j : ℕ) → isSet inputs j ≡ true → isSet rest j ≡ false → least ≤ keyOf slots o j
   pub within : (j : ℕ) → isSet rest j ≡ true → isSet inputs j ≡ true
 
--- whether input i keeps a cell for output o, asked for while it keeps a first one: it kept none, or one that stands behind
+-- whether input i, asked by output o, keeps that cell: it kept none, or one that stands behind it
 abbrev pub prefersIn : List ℕ → ℕ → ℕ → Arrival → Bool
 prefersIn places i o Nothing = true
 prefersIn places i o (For d) = ltb (getD places (i * 32 + o) 0) (getD places (i * 32 + d) 0)

@@ -10,7 +10,7 @@ use Rattle.crossbox.specs.declared.Arrival.the-variants.{Nothing, For}
 use Rattle.crossbox.specs.declared.Cell.{Cell}
 use Rattle.crossbox.specs.Cells.{ahead}
 use Rattle.crossbox.specs.Ideal.{first}
-use Rattle.crossbox.specs.Box.{Box, forOutput}
+use Rattle.crossbox.specs.Box.{Box, Stable, forOutput}
 use Rattle.crossbox.specs.Shape.{WellPlaced, InOrder}
 use Rattle.crossbox.specs.Matching.{Finding, afterAsks, waitsAt, pairs, withKept, find}
 use Rattle.matching.specs.declared.Firsts.{Firsts}
@@ -48,10 +48,11 @@ picks (suc k) choice b = withKept (picked (getD choice k Nothing) (b .waiting k)
 abbrev pub ended : ℕ → Box → Finding
 ended n b = afterAsks (pairs n b) n b
 
--- what is found is what the model finds: the same cells, each input sending what it keeps there, the first cell of its pair, and
--- after as many asks
+-- what is found is what the model finds, a stable choice: the same cells, each input sending what it keeps there, the first cell of
+-- its pair, and after as many asks
 pub record Finds (r : Found) (n : ℕ) (b : Box) : Type 0 where
   pub cells : picks n (r .choice) b ≡ find n b
+  pub stable : Stable b (picks n (r .choice) b)
   pub sends : (i : ℕ) → getD (r .choice) i Nothing ≡ shown (ended n b .kept i)
   pub leading : (i : ℕ) (c : Cell) → ended n b .kept i ≡ Some c → firstFor (c .output) (b .waiting i) ≡ Some c
   pub nobody : (i : ℕ) → n ≤ i → getD (r .choice) i Nothing ≡ Nothing

@@ -48,7 +48,7 @@ fn key(slots: &[u32; 1024], o: u8, i: u8) -> u64
     requires { ⌜ o < 32 ⌝ ∗ ⌜ i < 32 ⌝ }
     ensures { λ r. ⌜ r ≡ keyOf (now (slots .entry)) o i ⌝ }
 {
-    slots[o as usize * LINES + i as usize] as u64 * 32 + i as u64
+    slots[o as usize * LINES + i as usize] as u64 * LINES as u64 + i as u64
 }
 
 // The one of these inputs whose first cell for output o is the earliest.
@@ -65,7 +65,7 @@ fn earliest(slots: &[u32; 1024], o: u8, inputs: u32) -> u8
         least = least.min(at_i);
         rest = without_lowest(rest);
     }
-    (least % 32) as u8
+    (least % LINES as u64) as u8
 }
 
 // What input i answers when output o asks and `before` is what it kept: it keeps what stands first in its list.
