@@ -1,0 +1,4 @@
+pub mod Asking
+pub mod Bits
+pub mod Loop
+pub mod Table
