@@ -6,3 +6,4 @@ pub mod Distinct
 pub mod Put
 pub mod Remove
 pub mod Reset
+pub mod Carry
