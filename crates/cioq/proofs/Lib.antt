@@ -3,3 +3,5 @@ pub mod Begun
 pub mod Lists
 pub mod Arrivals
 pub mod Arrived
+pub mod Departures
+pub mod Departed

@@ -1,3 +1,4 @@
 pub mod State
 pub mod Spells
 pub mod Arrivals
+pub mod Departures

@@ -1,10 +1,10 @@
 -- The real box over lent memory, as plain lists and numbers. Assumes nothing.
 use mathlib.Core.Path.{_≡_}
 use mathlib.Core.List.{List}
-use Prim.Native.Nat.{ℕ, _+_, _*_, _≤_}
+use Prim.Native.Nat.{ℕ, _+_, _*_, _<_, _≤_}
 use lib.ListN.{length, getD, replicate}
 use Rattle.std.specs.shelf.Lists.{sum}
-use Rattle.buffer.specs.Memory.{Mem, view, Sound, reset}
+use Rattle.buffer.specs.Memory.{Mem, view, Sound, rowLength, reset}
 use Rattle.cioq.specs.declared.RealBox.{RealBox}
 
 -- all that there is: the memory, whose row i is the list of input i and row n + o the store of output o, how many cells are held
@@ -36,6 +36,10 @@ pub record Good (s : State) : Type 0 where
   pub heads-lent : 8224 ≤ length (s .mem .heads)
   pub cells-lent : 8224 ≤ length (s .mem .cells)
   pub spare-lent : 8224 ≤ length (s .mem .spare)
+
+-- of the cells in the store of an output none is uncounted
+abbrev pub Counted : State → Type 0
+Counted s = (o : ℕ) → o < s .lines → rowLength (s .mem) (s .lines + o) ≤ countOf s o
 
 -- before the first settings
 abbrev pub unset : Mem → State
