@@ -27,13 +27,8 @@ use Rattle.words.specs.Answer.{Departure, leaving}
 use Rattle.cioq.specs.State.{State, Good, Counted, countOf}
 use Rattle.cioq.specs.Spells.{dress, Spells, Counts}
 use Rattle.cioq.specs.Departures.{withoutFirst, departOne, departAll, departureOf, departingBytes, dressed, departedBytes}
-use Rattle.cioq.proofs.Lists.{dressed-length}
+use Rattle.cioq.proofs.Lists.{dressed-length, held-at}
 use Rattle.cioq.proofs.Departures.{departs-first, departure-first, departed-lines, departed-slots, departed-good}
-
--- what stands behind the first k of a row
-pub held-at : (m : Mem) (r k : ℕ) (d : Held) → Sound m → r < m .count → k < rowLength m r → getD (held m r) k d ≡ heldAt m (placeAt r k m)
-held-at m r k d s h l =
-    getD-map (heldAt m) (row m r) k 0 d (omega (arith, row-length m r s h)) ∙ ap (λ (p : ℕ). heldAt m p) (row-at m r k l)
 
 -- a box that is spelled has no cell in a store that is not counted
 pub spelled-counted : (bytes : Cell → List ℕ) (s : State) (b : Box) → Good s → Spells bytes (s .lines) (s .mem) b → Counts (s .lines) (s .counts) b → Counted s

@@ -1,7 +1,10 @@
 pub mod Room
 pub mod Begun
 pub mod Lists
+pub mod Seeking
 pub mod Arrivals
 pub mod Arrived
 pub mod Departures
 pub mod Departed
+pub mod Transfers
+pub mod Named

@@ -5,11 +5,11 @@ use Prim.Native.Nat.{ℕ, zero, suc, min, _+_, _-_, _*_, _<_, _≤_}
 use native.Mathlib.Omega.{arith}
 use lib.ListN.{length, getD, take, drop}
 use Rattle.std.specs.Holes.{inserted}
-use Rattle.std.proofs.shelf.Lists.{length-map}
+use Rattle.std.proofs.shelf.Lists.{length-map, getD-map}
 use Rattle.crossbox.specs.declared.Cell.{Cell}
 use Rattle.crossbox.specs.Box.{Box, putAt}
-use Rattle.buffer.specs.Memory.{Mem, Held, held, heldAt, row, rowLength, Sound}
-use Rattle.buffer.proofs.Safety.{row-length}
+use Rattle.buffer.specs.Memory.{Mem, Held, held, heldAt, row, rowLength, placeAt, headAt, Sound}
+use Rattle.buffer.proofs.Safety.{row-length, row-at}
 use Rattle.cioq.specs.Spells.{dress, Spells, cells, boxOf}
 
 -- put at its place, or at the end
@@ -36,3 +36,18 @@ undressed bytes (c ∷ l) = ap (λ (xs : List Cell). c ∷ xs) (undressed bytes 
 
 pub spelled-cells : (bytes : Cell → List ℕ) (m : Mem) (r : ℕ) (l : List Cell) → held m r ≡ map (dress bytes) l → cells m r ≡ l
 spelled-cells bytes m r l e = ap (λ (xs : List Held). map (λ (h : Held). h .cell) xs) e ∙ undressed bytes l
+
+-- what stands behind the first k of a row
+pub held-at : (m : Mem) (r k : ℕ) (d : Held) → Sound m → r < m .count → k < rowLength m r → getD (held m r) k d ≡ heldAt m (placeAt r k m)
+held-at m r k d s h l =
+    getD-map (heldAt m) (row m r) k 0 d (omega (arith, row-length m r s h)) ∙ ap (λ (p : ℕ). heldAt m p) (row-at m r k l)
+
+-- a row has as many cells as places
+pub cells-length : (m : Mem) (r : ℕ) → Sound m → r < m .count → length (cells m r) ≡ rowLength m r
+cells-length m r s h = length-map (held m r) (λ (x : Held). x .cell) ∙ sym (held-length m r s h)
+
+-- and the cell behind its first k is the one that is read there
+pub cells-at : (m : Mem) (r k : ℕ) (d : Cell) → Sound m → r < m .count → k < rowLength m r → getD (cells m r) k d ≡ heldAt m (placeAt r k m) .cell
+cells-at m r k d s h l =
+    getD-map (λ (x : Held). x .cell) (held m r) k (record { cell = d; body = [] }) d (omega (arith, held-length m r s h))
+    ∙ ap (λ (x : Held). x .cell) (held-at m r k (record { cell = d; body = [] }) s h l)
