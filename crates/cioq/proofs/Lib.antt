@@ -8,3 +8,5 @@ pub mod Departures
 pub mod Departed
 pub mod Transfers
 pub mod Named
+pub mod Places
+pub mod Transferred
