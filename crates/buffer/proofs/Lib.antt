@@ -7,3 +7,4 @@ pub mod Put
 pub mod Remove
 pub mod Reset
 pub mod Within
+pub mod Carry

@@ -152,6 +152,23 @@ remove r k m =
       count = m .count;
     }
 
+-- after what stands behind the first k of row r was carried behind the first j of row q
+abbrev pub carry : ℕ → ℕ → ℕ → ℕ → Mem → Mem
+carry r k q j m =
+    record {
+      heads = set (m .heads) (placeAt r k m) (headOf (cellOf (headAt m (placeAt r k m))) (q + 1));
+      cells = m .cells;
+      rows =
+          edited (q * m .room + j) (q * m .room + rowLength m q + 1) (movedUp (placeAt r k m))
+          (edited (r * m .room + k) (r * m .room + rowLength m r) movedDown (m .rows));
+      spare = m .spare;
+      lens = set (set (m .lens) r (rowLength m r - 1)) q (rowLength m q + 1);
+      free = m .free;
+      places = m .places;
+      room = m .room;
+      count = m .count;
+    }
+
 -- after so many places were made free, and every row empty
 abbrev pub reset : ℕ → Mem → Mem
 reset places m =

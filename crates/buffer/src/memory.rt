@@ -7,7 +7,7 @@ ghost use lib.Dec.{leb};
 ghost use lib.ListN.{length, getD, set, take, drop, replicate};
 ghost use Rattle.std.specs.Options.{Cases};
 ghost use Rattle.buffer.specs.Head.{cellOf, vacant};
-ghost use Rattle.buffer.specs.Memory.{Mem, view, Sound, enough, fresh, put as putCell, remove as removeCell, reset as resetPlaces, placeAt, rowLength, headAt};
+ghost use Rattle.buffer.specs.Memory.{Mem, view, Sound, enough, fresh, put as putCell, remove as removeCell, carry as carryCell, reset as resetPlaces, placeAt, rowLength, headAt};
 use crate::Free;
 use crate::Head;
 use crate::PLACES;
@@ -139,5 +139,26 @@ impl<'a, const ROWS: usize, const ROOM: usize> Memory<'a, ROWS, ROOM> {
         let (free, top) = self.free.given();
         self.spare[top] = place;
         self.free = free;
+    }
+
+    // Carries what stands behind the first k of one row behind the first j of another.
+    pub fn carry(&mut self, from: u8, k: usize, to: u8, j: usize)
+        requires sound { ⌜ Sound (view (now self)) ⌝ }
+        requires within { ⌜ (from < ROWS) × (k < rowLength (view (now self)) from) ⌝ }
+        requires beyond { ⌜ (to < ROWS) × (j ≤ rowLength (view (now self)) to) × (rowLength (view (now self)) to < ROOM) ⌝ }
+        requires apart { ⌜ (to ≡ from → ⊥) ⌝ }
+        ensures { λ _. ⌜ view (now (self .exit)) ≡ carryCell from k to j (view (now (self .entry))) ⌝ }
+    {
+        let start = from as usize * ROOM;
+        let len = self.lens[from as usize];
+        let place = self.rows[start + k];
+        move_down(&mut self.rows[start + k..start + len as usize]);
+        let end = to as usize * ROOM;
+        let more = self.lens[to as usize];
+        move_up(&mut self.rows[end + j..end + more as usize + 1], place);
+        self.lens[from as usize] = len - 1;
+        self.lens[to as usize] = more + 1;
+        let head = self.heads[place as usize];
+        self.heads[place as usize] = Head::of(head.cell(), u16::from(to) + 1);
     }
 }

@@ -9,6 +9,9 @@ pub enum Fault {
     LineCount,
     NoSuchOutput,
     SlotLimit,
+    NotWaiting,
+    SharedOutput,
+    Unstable,
 }
 
 impl Fault {
@@ -21,6 +24,9 @@ impl Fault {
             Fault::LineCount => 2,
             Fault::NoSuchOutput => 3,
             Fault::SlotLimit => 4,
+            Fault::NotWaiting => 5,
+            Fault::SharedOutput => 6,
+            Fault::Unstable => 7,
         }
     }
 }

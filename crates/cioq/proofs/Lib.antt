@@ -1,0 +1,12 @@
+pub mod Room
+pub mod Begun
+pub mod Lists
+pub mod Seeking
+pub mod Arrivals
+pub mod Arrived
+pub mod Departures
+pub mod Departed
+pub mod Transfers
+pub mod Named
+pub mod Places
+pub mod Transferred

@@ -1,0 +1,6 @@
+pub mod State
+pub mod Spells
+pub mod Arrivals
+pub mod Departures
+pub mod Choice
+pub mod Transfers
