@@ -19,12 +19,12 @@ use Rattle.crossbox.specs.declared.Arrival.the-variants.{Nothing, For}
 use Rattle.buffer.specs.Memory.{Mem, rowLength}
 use Rattle.buffer.proofs.Put.{put-sound}
 use Rattle.std.specs.declared.result.Result.the-variants.{Ok}
-use Rattle.words.specs.Lines.{Line, readEntry, readLines, fits, allFit, judge, verdict}
+use Rattle.words.specs.Lines.{noLine, Line, readEntry, readLines, fits, allFit, judge, verdict}
 use Rattle.words.specs.Spelling.{Formed}
 use Rattle.words.proofs.Lines.{lines-length, lines-formed, formed-at, fits-at, line-there, line-at}
 use Rattle.words.proofs.Scans.{verdict-good}
 use Rattle.cioq.specs.State.{State, Good, countOf}
-use Rattle.cioq.specs.Arrivals.{Brings, spot, withCell, turnedAway, admitOne, noLine, arrivalsOf, admitAll, away, linesOr, slotLines}
+use Rattle.cioq.specs.Arrivals.{Brings, spot, withCell, turnedAway, admitOne, arrivalsOf, admitAll, away, linesOr, slotLines}
 use Rattle.cioq.proofs.Room.{place-left, row-room}
 
 -- lines bring nothing, or cells for outputs that are there

@@ -19,10 +19,10 @@ use Rattle.crossbox.specs.Box.{Box, heldFor, oneIf, takenFor, roomFor, taken, a
 use Rattle.crossbox.proofs.Held.{held-arriving}
 use Rattle.buffer.specs.Memory.{Mem, Held, held, Sound, rowLength, put}
 use Rattle.buffer.proofs.Put.{put-held, put-held-other, map-inserted}
-use Rattle.words.specs.Lines.{Line}
+use Rattle.words.specs.Lines.{noLine, Line}
 use Rattle.cioq.specs.State.{State, Good, countOf}
 use Rattle.cioq.specs.Spells.{dress, Spells, Counts}
-use Rattle.cioq.specs.Arrivals.{Brings, spot, withCell, turnedAway, admitOne, noLine, arrivalsOf, admitAll, away}
+use Rattle.cioq.specs.Arrivals.{Brings, spot, withCell, turnedAway, admitOne, arrivalsOf, admitAll, away}
 use Rattle.cioq.proofs.Room.{place-left, row-room}
 use Rattle.cioq.proofs.Lists.{putAt-inserted, dressed-length}
 use Rattle.cioq.proofs.Arrivals.{AllBring, all-lines, all-slots, all-good}

@@ -25,12 +25,6 @@ use Rattle.words.proofs.Overwrites.{written-then}
 use Rattle.cioq.specs.State.{State, Good, Counted, countOf}
 use Rattle.cioq.specs.Departures.{withoutFirst, departOne, departAll, departureOf, departingBytes}
 
--- what stands first in a store, as it is read
-pub first-body : (s : State) (r : ℕ) (body : List ℕ) → Good s → r < 64 → 0 < rowLength (s .mem) r → body ≡ getD (s .mem .cells) (placeAt r 0 (s .mem)) body → body ≡ getD (s .mem .cells) (placeAt r 0 (s .mem)) []
-first-body s r body g l h e =
-    let i : placeAt r 0 (s .mem) < length (s .mem .cells) = omega (arith, place-in (s .mem) r 0 (g .sound) (omega (arith, g .rows)) h, g .sound .cells-reach) in
-    getD-read (s .mem .cells) (placeAt r 0 (s .mem)) body i e []
-
 module _ (s : State) (o : ℕ) (h : rowLength (s .mem) (s .lines + o) ≡ 0 → ⊥) where
   full-store : eqb (rowLength (s .mem) (s .lines + o)) 0 ≡ false
   full-store = grind (arith, tells)

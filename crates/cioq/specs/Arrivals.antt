@@ -12,7 +12,7 @@ use Rattle.crossbox.specs.declared.Arrival.the-variants.{Nothing, For}
 use Rattle.crossbox.specs.declared.Cell.{Cell}
 use Rattle.crossbox.specs.Cells.{Arrivals}
 use Rattle.buffer.specs.Memory.{Mem, rowLength, put}
-use Rattle.words.specs.Lines.{Line, readLines}
+use Rattle.words.specs.Lines.{Line, noLine, readLines}
 use Rattle.cioq.specs.State.{State, countOf}
 
 -- what arrives is nothing, or a cell of 64 bytes for an output that is there
@@ -43,10 +43,6 @@ turnedAway s (For o) = not (ltb (countOf s o) 256)
 abbrev pub admitOne : ℕ → Arrival → List ℕ → State → State
 admitOne i Nothing body s = s
 admitOne i (For o) body s = cond (ltb (countOf s o) 256) (withCell i o body s) s
-
--- a line of a slot in which nothing arrives
-abbrev pub noLine : Line
-noLine = record { arrival = Nothing; body = [] }
 
 -- what arrives by each input
 abbrev pub arrivalsOf : List Line → Arrivals

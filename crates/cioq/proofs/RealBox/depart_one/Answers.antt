@@ -9,7 +9,7 @@ use Rattle.words.specs.Writing.{overwrite}
 use Rattle.buffer.specs.Memory.{Mem, view, rowLength}
 use Rattle.cioq.specs.State.{State, state}
 use Rattle.cioq.specs.Departures.{departureOf, withoutFirst}
-use Rattle.cioq.proofs.Departures.{first-body, departs-first, departure-first}
+use Rattle.cioq.proofs.Departures.{departs-first, departure-first}
 use Rattle.cioq.proofs.RealBox.depart_one.Needs as need
 
 pub returns : need.returns
@@ -17,8 +17,7 @@ returns c =
     let s = state (c .args .self .now) in
     let few = c .pre .good .few in
     let full : rowLength (view (c .args .self .now .memory)) (c .args .self .now .lines + c .args .output) ≡ 0 → ⊥ = λ e. c .if-len-eq0 .left (omega (arith, c .len .ensures, e)) in
-    let some : 0 < rowLength (view (c .args .self .now .memory)) (c .args .self .now .lines + c .args .output) = omega arith in
-    let dep = departure-first s (c .args .output) full (c .cell-cell .result) (c .body .result .now) (c .cell-cell .ensures) (first-body s (c .args .self .now .lines + c .args .output) (c .body .result .now) (c .pre .good) (omega (arith, c .pre .there)) some (c .body .ensures)) in
+    let dep = departure-first s (c .args .output) full (c .cell-cell .result) (c .body .result .now) (c .cell-cell .ensures) (c .body .ensures) in
     record {
       after = ap (λ (m : Mem). record { mem = m; counts = set (c .args .self .now .held) (c .args .output) (getD (c .args .self .now .held) (c .args .output) 0 - 1); lines = c .args .self .now .lines; slots = c .args .self .now .now }) (c .remove .ensures) ∙ sym (departs-first s (c .args .output) full);
       bytes = c .write-cell-next .ensures .bytes ∙ ap (λ (d : Departure). overwrite (c .args .at) (leaving d) (c .args .out .now)) (sym dep);
