@@ -38,3 +38,11 @@ pub fn without(x: u32, k: u8) -> u32
 {
     x ^ (1 << k)
 }
+
+// Whether k is in a set.
+pub fn has(x: u32, k: u8) -> bool
+    requires { ⌜ k < 32 ⌝ }
+    ensures { λ r. ⌜ r ≡ isSet x k ⌝ }
+{
+    (x >> k) & 1 == 1
+}

@@ -10,6 +10,7 @@ ghost use Rattle.matching.specs.Table.{Ties, Finds};
 ghost use Rattle.matching.specs.Asking.{names, Small, keyOf, Earliest, prefersIn};
 
 mod bits;
+mod table;
 
 use crate::bits::lowest;
 use crate::bits::with;
