@@ -3,7 +3,7 @@ use mathlib.Core.Bool.{Bool, true, false, cond, not, _&&_, _||_}
 use mathlib.Core.List.{List, [], _∷_}
 use Prim.Native.Nat.{ℕ, zero, suc}
 use lib.Dec.{eqb, ltb}
-use lib.ListN.{length, getD}
+use lib.ListN.{length, getD, set}
 use Rattle.std.specs.declared.option.Option.{Option}
 use Rattle.std.specs.declared.option.Option.the-variants.{Some, None}
 use Rattle.std.specs.declared.result.Result.{Result}
@@ -88,6 +88,15 @@ allSettled (suc k) gets ch b = settled gets (ch k) (b .waiting k) && allSettled 
 -- what each output gets of some cells
 abbrev pub getsOf : List Cell → ℕ → Option Cell
 getsOf ms o = firstFor o ms
+
+-- what each output gets, from a list by output
+abbrev pub tableOf : List (Option Cell) → ℕ → Option Cell
+tableOf gets o = getD gets o None
+
+-- a list by output, with a cell noted for its own
+abbrev pub noted : Option Cell → List (Option Cell) → List (Option Cell)
+noted None gets = gets
+noted (Some c) gets = set gets (c .output) (Some c)
 
 -- the lowest fault of a choice: a cell that does not wait, two for one output, one left behind without a reason
 abbrev pub judgeChoice : ℕ → Arrivals → Box → Result (Unit {0}) Fault

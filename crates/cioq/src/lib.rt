@@ -18,6 +18,8 @@ ghost use Rattle.cioq.specs.Choice.{choiceOf, allWait, judgeChoice};
 ghost use Rattle.cioq.specs.Transfers.{position, Sends, sent, transferOne, transferAll};
 ghost use Rattle.cioq.specs.Departures.{departOne, departureOf, departAll, departingBytes};
 
+mod bits;
+mod judge;
 mod search;
 
 use crate::search::first_for;
