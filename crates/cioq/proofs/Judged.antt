@@ -27,10 +27,11 @@ use Rattle.words.specs.declared.fault.Fault.{Fault}
 use Rattle.words.specs.declared.fault.Fault.the-variants.{NotWaiting, SharedOutput, Unstable}
 use Rattle.buffer.specs.Memory.{Mem}
 use Rattle.cioq.specs.Spells.{Spells, boxOf}
-use Rattle.cioq.specs.Choice.{firstFor, named, also, picks, waitsIn, allWait, isNamed, namedBefore, isNew, oneOutput, beats, settled, allSettled, getsOf, judgeChoice}
+use Rattle.cioq.specs.Choice.{firstFor, named, also, picks, waitsIn, allWait, isNamed, namedBefore, isNew, oneOutput, beats, settled, allSettled, getsOf, judgeChoice, JudgedIsStable}
+use Rattle.cioq.specs.Transfers.{position}
 use Rattle.cioq.proofs.Lists.{spelled-cells}
-use Rattle.cioq.proofs.Named.{first-in, named-in, AtHome, picks-out, picks-into, none-picked}
-use Rattle.cioq.proofs.Transfers.{all-wait-at}
+use Rattle.cioq.proofs.Named.{first-position, first-in, named-in, AtHome, picks-out, picks-into, none-picked}
+use Rattle.cioq.proofs.Transfers.{all-wait-at, waits-position}
 use Rattle.cioq.proofs.Transferred.{all-wait-alike, one-output-at}
 use Rattle.cioq.proofs.Judging.{all-settled-at, judged-good}
 
@@ -244,3 +245,95 @@ module _ (ch : Arrivals) (b : Box) (home : AtHome b) where
                 omega arith,
           )) in
           grind (arith, s, ih)
+
+-- cells wait at inputs that are there
+abbrev pub There : ℕ → Box → Type 0
+There n b = (i : ℕ) (c : Cell) → isIn c (b .waiting i) ≡ true → (c .input ≡ i) × (i < n)
+
+module _ (n : ℕ) (ch : Arrivals) (b : Box) (well : There n b) where
+  home : AtHome b
+  home i c h = well i c h .0
+
+  module _ (t : Taken n ch b) where
+    why : (c : Cell) → isIn c (b .waiting (c .input)) ≡ true → (isIn c (picks n ch b) ≡ true) ⊎ Reason b (picks n ch b) c
+    why c h =
+        let l = well (c .input) c h .1 in
+        elim (settled-stays (getsOf (picks n ch b)) (ch (c .input)) (b .waiting (c .input)) (all-settled-at n (c .input) (getsOf (picks n ch b)) ch b (t .settle) l) c h) [
+          | inl y ↦
+              let s = beats-some (firstFor (c .output) (picks n ch b)) c y in
+              let f = first-in (c .output) (picks n ch b) (s .0) (s .1) in
+              inr (s .0, f .0, inr (f .1, s .2))
+          | inr y ↦
+              let p = picks-into ch b n (c .input) (y .0) l (y .1) in
+              elim (y .2) [
+                | inl z ↦ inl (isIn-same c (y .0) (picks n ch b) z ∙ p)
+                | inr z ↦ inr (y .0, p, inl (home (c .input) (y .0) (named-in (ch (c .input)) (b .waiting (c .input)) (y .0) (y .1) .0), z))
+              ]
+        ]
+
+    taken-stable : Stable b (picks n ch b)
+    taken-stable =
+        record {
+          waits = λ c h. let o = picks-out ch b home n c h in named-in (ch (c .input)) (b .waiting (c .input)) c (o .1) .0;
+          single = picks-apart ch b home n (λ k h. one-output-at n k ch (t .one) h);
+          why = why;
+        }
+
+  module _ (w : allWait n ch b ≡ true) (st : Stable b (picks n ch b)) where
+    -- the cell that is named at an input waits
+    waits-some : (k o : ℕ) → k < n → ch k ≡ For o → (c : Cell) × (named (ch k) (b .waiting k) ≡ Some c)
+    waits-some k o h e =
+        let l = subst (λ (x : Arrival). waitsIn x (b .waiting k) ≡ true) e (all-wait-at n k ch b w h) in
+        let d : position o (b .waiting k) < length (b .waiting k) = waits-position o (b .waiting k) l in
+        let nobody : Cell = record { slot = 0; input = 0; output = 0 } in
+        (getD (b .waiting k) (position o (b .waiting k)) nobody, ap (λ (x : Arrival). named x (b .waiting k)) e ∙ first-position o (b .waiting k) nobody d)
+
+    named-output : (k o : ℕ) (c : Cell) → ch k ≡ For o → named (ch k) (b .waiting k) ≡ Some c → c .output ≡ o
+    named-output k o c e q = first-in o (b .waiting k) c (sym (ap (λ (x : Arrival). named x (b .waiting k)) e) ∙ q) .1
+
+    all-new : (k : ℕ) → k < n → (x : Arrival) → ch k ≡ x → isNew k ch x ≡ true
+    all-new k h Nothing e = refl
+    all-new k h (For o) e =
+        elim (cases-bool (namedBefore k ch o)) [
+          | inl t ↦
+              absurd (
+              let j = before-named k o ch t in
+              let l = j .1 in
+              let c = waits-some k o h e in
+              let d = waits-some (j .0) o (omega arith) (j .2) in
+              let p = picks-into ch b n k (c .0) h (c .1) in
+              let q = picks-into ch b n (j .0) (d .0) (omega arith) (d .1) in
+              let s = one-output (c .0) (d .0) (picks n ch b) (st .single) p q (named-output k o (c .0) e (c .1) ∙ sym (named-output (j .0) o (d .0) (j .2) (d .1))) in
+              let i = home k (c .0) (named-in (ch k) (b .waiting k) (c .0) (c .1) .0) in
+              let m = home (j .0) (d .0) (named-in (ch (j .0)) (b .waiting (j .0)) (d .0) (d .1) .0) in
+              let r : c .0 .input ≡ d .0 .input = ap (λ (z : Cell). z .input) (same-eq (c .0) (d .0) s) in
+              omega arith)
+          | inr t ↦ ap (λ (z : Bool). not z) t
+        ]
+
+    stays : (k : ℕ) → k < n → (c : Cell) → isIn c (b .waiting k) ≡ true → Stays (getsOf (picks n ch b)) (ch k) (b .waiting k) c
+    stays k h c i =
+        let e = home k c i in
+        let named-at : (m : Cell) → isIn m (picks n ch b) ≡ true → m .input ≡ k → named (ch k) (b .waiting k) ≡ Some m =
+        λ m p q. subst (λ (z : ℕ). named (ch z) (b .waiting z) ≡ Some m) q (picks-out ch b home n m p .1) in
+        elim (st .why c (subst (λ (z : ℕ). isIn c (b .waiting z) ≡ true) (sym e) i)) [
+          | inl p ↦ inr (c, named-at c p e, inl (same-refl c))
+          | inr r ↦
+              elim (r .2) [
+                | inl y ↦ inr (r .0, named-at (r .0) (r .1) (y .0 ∙ e), inr (subst (λ (z : ℕ). ahead (r .0) (b .waiting z) < ahead c (b .waiting z)) e (y .1)))
+                | inr y ↦
+                    let f = first-some (c .output) (picks n ch b) (r .0) (r .1) (y .0) in
+                    let g = first-in (c .output) (picks n ch b) (f .0) (f .1) in
+                    let s = one-output (f .0) (r .0) (picks n ch b) (st .single) (g .0) (r .1) (g .1 ∙ sym (y .0)) in
+                    inl (ap (λ (x : Option Cell). beats x c) (f .1) ∙ (ap (λ (x : Cell). earlier x c) (same-eq (f .0) (r .0) s) ∙ y .1))
+              ]
+        ]
+
+    stable-taken : Ok tt ≡ judgeChoice n ch b
+    stable-taken =
+        judged-good n ch b w (one-from n ch (λ k h. all-new k h (ch k) refl))
+        (settled-from n (getsOf (picks n ch b)) ch b (λ k h. stays-settled (getsOf (picks n ch b)) (ch k) (b .waiting k) (stays k h)))
+
+-- a choice is taken just where each cell that it names waits, and it is stable
+pub judged-stable : JudgedIsStable
+judged-stable n ch b well = (λ e. (taken n ch b e .wait, taken-stable n ch b well (taken n ch b e)), λ w s. stable-taken n ch b well w s)

@@ -13,3 +13,4 @@ pub mod Places
 pub mod Transferred
 pub mod Judging
 pub mod Judged
+pub mod Printed

@@ -1,7 +1,8 @@
 -- A choice by input: which cells it names, and the lowest of its faults. Assumes nothing.
+use mathlib.Core.Path.{_≡_}
 use mathlib.Core.Bool.{Bool, true, false, cond, not, _&&_, _||_}
 use mathlib.Core.List.{List, [], _∷_}
-use Prim.Native.Nat.{ℕ, zero, suc}
+use Prim.Native.Nat.{ℕ, zero, suc, _<_}
 use lib.Dec.{eqb, ltb}
 use lib.ListN.{length, getD, set}
 use Rattle.std.specs.declared.option.Option.{Option}
@@ -11,9 +12,9 @@ use Rattle.std.specs.declared.result.Result.the-variants.{Ok, Err}
 use Rattle.crossbox.specs.declared.Arrival.{Arrival}
 use Rattle.crossbox.specs.declared.Arrival.the-variants.{Nothing, For}
 use Rattle.crossbox.specs.declared.Cell.{Cell}
-use Rattle.crossbox.specs.Cells.{Arrivals, earlier}
+use Rattle.crossbox.specs.Cells.{Arrivals, earlier, isIn}
 use Rattle.crossbox.specs.Ideal.{first}
-use Rattle.crossbox.specs.Box.{Box, forOutput}
+use Rattle.crossbox.specs.Box.{Box, Stable, forOutput}
 use Rattle.words.specs.declared.fault.Fault.{Fault}
 use Rattle.words.specs.declared.fault.Fault.the-variants.{NotWaiting, SharedOutput, Unstable}
 
@@ -104,3 +105,10 @@ judgeChoice n ch b =
     cond (allWait n ch b)
     (cond (oneOutput n ch) (cond (allSettled n (getsOf (picks n ch b)) ch b) (Ok tt) (Err Unstable)) (Err SharedOutput))
     (Err NotWaiting)
+
+-- A choice is taken just where each cell that it names waits, and it is stable.
+abbrev pub JudgedIsStable : Type 0
+JudgedIsStable =
+    (n : ℕ) (ch : Arrivals) (b : Box) → ((i : ℕ) (c : Cell) → isIn c (b .waiting i) ≡ true → (c .input ≡ i) × (i < n)) →
+    (Ok tt ≡ judgeChoice n ch b → (allWait n ch b ≡ true) × Stable b (picks n ch b))
+    × (allWait n ch b ≡ true → Stable b (picks n ch b) → Ok tt ≡ judgeChoice n ch b)

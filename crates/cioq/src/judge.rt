@@ -8,7 +8,7 @@ ghost use Rattle.std.specs.declared.option.Option.the-variants.{Some, None};
 ghost use Rattle.crossbox.specs.Promise.{Fits};
 ghost use Rattle.cioq.specs.State.{state, Good, Aimed};
 ghost use Rattle.cioq.specs.Spells.{cells, boxOf};
-ghost use Rattle.cioq.specs.Choice.{choiceOf, waitsIn, allWait, isNamed, oneOutput, named, picks, getsOf, tableOf, noted, beats, settled, allSettled, judgeChoice};
+ghost use Rattle.cioq.specs.Choice.{choiceOf, waitsIn, allWait, isNamed, oneOutput, named, picks, getsOf, tableOf, noted, beats, settled, allSettled, judgeChoice, JudgedIsStable};
 use crate::RealBox;
 use crate::bits::has;
 use crate::bits::with;
@@ -17,6 +17,13 @@ use crate::search::is_earlier;
 use crossbox::Arrival;
 use crossbox::Cell;
 use words::Fault;
+
+// A choice is taken just where each cell that it names waits, and it is stable.
+pub fn taken_choices_are_stable() -> u8
+    ensures { λ _. ⌜ JudgedIsStable ⌝ }
+{
+    0
+}
 
 // Whether no two of the first inputs name cells for one output.
 fn one_for_each(lines: u8, choice: &[Arrival; 32]) -> bool
