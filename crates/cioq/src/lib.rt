@@ -12,21 +12,25 @@ ghost use Rattle.words.specs.Writing.{overwrite, departureBytes};
 ghost use Rattle.words.specs.Answer.{leaving};
 ghost use Rattle.cioq.specs.State.{State, state, Good, Counted, unset, begun, passed};
 ghost use Rattle.cioq.specs.Arrivals.{Brings, admitOne, turnedAway, admitAll, away, slotLines};
+ghost use Rattle.crossbox.specs.Cells.{countEarlier};
 ghost use Rattle.crossbox.specs.Promise.{Fits};
 ghost use Rattle.cioq.specs.Spells.{cells, boxOf};
 ghost use Rattle.cioq.specs.Choice.{choiceOf, allWait, judgeChoice};
 ghost use Rattle.cioq.specs.Transfers.{position, Sends, sent, transferOne, transferAll};
 ghost use Rattle.cioq.specs.Departures.{departOne, departureOf, departAll, departingBytes};
 
-mod reads;
+mod bits;
+mod judge;
 mod search;
 
+use crate::search::count_earlier;
 use crate::search::first_for;
 use crate::search::place_for;
 use buffer::Head;
 use buffer::Memory;
 use crossbox::Arrival;
 use crossbox::Cell;
+pub use judge::taken_choices_are_stable;
 use words::BODY;
 use words::NONE;
 use words::body_of;
@@ -252,5 +256,33 @@ impl<'a> RealBox<'a> {
         for input in 0..lines {
             self.transfer_one(input, choice[input as usize]);
         }
+    }
+
+    // How many cells wait in the list of an input.
+    pub fn waiting(&self, input: u8) -> usize
+        requires good { ⌜ Good (state (now self)) ⌝ }
+        requires there { ⌜ input < state (now self) .lines ⌝ }
+        ensures { λ r. ⌜ r ≡ length (boxOf (state (now (self .entry)) .lines) (state (now (self .entry)) .mem) .waiting input) ⌝ }
+    {
+        self.memory.len(input)
+    }
+
+    // The cell behind the first k of those.
+    pub fn waiting_cell(&self, input: u8, k: usize) -> Cell
+        requires good { ⌜ Good (state (now self)) ⌝ }
+        requires there { ⌜ input < state (now self) .lines ⌝ }
+        requires within { ⌜ k < length (boxOf (state (now self) .lines) (state (now self) .mem) .waiting input) ⌝ }
+        ensures { λ r. ⌜ r ≡ getD (boxOf (state (now (self .entry)) .lines) (state (now (self .entry)) .mem) .waiting input) k r ⌝ }
+    {
+        self.memory.cell(input, k)
+    }
+
+    // How many cells in the store of a cell's output are earlier than the cell.
+    pub fn earlier_stored(&self, cell: Cell) -> usize
+        requires good { ⌜ Good (state (now self)) ⌝ }
+        requires there { ⌜ cell .output < state (now self) .lines ⌝ }
+        ensures { λ r. ⌜ r ≡ countEarlier cell (boxOf (state (now (self .entry)) .lines) (state (now (self .entry)) .mem) .store (cell .output)) ⌝ }
+    {
+        count_earlier(&self.memory, self.lines + cell.output, cell)
     }
 }

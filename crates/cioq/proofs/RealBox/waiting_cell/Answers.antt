@@ -1,4 +1,5 @@
 use mathlib.Core.Path.{sym, _∙_}
+use Prim.Native.Nat.{_<_}
 use native.Mathlib.Omega.{arith}
 use Rattle.buffer.specs.Memory.{view}
 use Rattle.cioq.proofs.Lists.{cells-length, cells-at}
@@ -6,12 +7,15 @@ use Rattle.cioq.proofs.RealBox.waiting_cell.Needs as need
 
 pub cell-requires : need.cell-requires
 cell-requires c κs =
-    let few = c .pre .0 .few in
-    let l = cells-length (view (c .args .self .now .memory)) (c .args .input) (c .pre .0 .sound) (omega (arith, c .pre .0 .rows)) in
-    (omega arith, (c .pre .0 .sound, (omega arith, omega arith)))
+    let few = c .pre .good .few in
+    let there = c .pre .there in
+    let n = cells-length (view (c .args .self .now .memory)) (c .args .input) (c .pre .good .sound) (omega (arith, c .pre .good .rows)) in
+    (omega arith, (c .pre .good .sound, (omega arith, omega (arith, c .pre .within))))
 
 pub returns : need.returns
 returns c =
-    let few = c .pre .0 .few in
-    let l = cells-length (view (c .args .self .now .memory)) (c .args .input) (c .pre .0 .sound) (omega (arith, c .pre .0 .rows)) in
-    c .cell .ensures ∙ sym (cells-at (view (c .args .self .now .memory)) (c .args .input) (c .args .k) (c .cell .result) (c .pre .0 .sound) (omega (arith, c .pre .0 .rows)) (omega arith))
+    let few = c .pre .good .few in
+    let there = c .pre .there in
+    let m = view (c .args .self .now .memory) in
+    let n = cells-length m (c .args .input) (c .pre .good .sound) (omega (arith, c .pre .good .rows)) in
+    c .cell .ensures ∙ sym (cells-at m (c .args .input) (c .args .k) (c .cell .result) (c .pre .good .sound) (omega (arith, c .pre .good .rows)) (omega (arith, c .pre .within)))
