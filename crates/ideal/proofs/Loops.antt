@@ -6,12 +6,11 @@ use mathlib.Core.Logic.{inl, inr}
 use Prim.Native.Nat.{ℕ, zero, suc, _+_, _-_, _*_, _<_, _≤_}
 use native.Mathlib.Numerals.{add-one}
 use native.Mathlib.Omega.{arith}
-use mir.Val.{boolByte}
 use lib.Dec.{eqb}
 use lib.ListN.{length, getD, set, take, drop}
 use Rattle.std.specs.declared.option.Option.{Option}
 use Rattle.std.specs.declared.option.Option.the-variants.{Some, None}
-use Rattle.std.proofs.shelf.Lists.{getD-set-same, getD-set-other, length-set, take-more, length-take-le, getD-take}
+use Rattle.std.proofs.shelf.Lists.{getD-set-same, getD-set-other, length-set, length-take-le, getD-take}
 use Rattle.std.specs.Iters.{counting}
 use Rattle.std.proofs.shelf.Counted.{fill-by-all}
 use Rattle.std.proofs.shelf.Tests.{cases-eq, ne-eqb}
@@ -23,7 +22,7 @@ use Rattle.words.specs.Lines.{Line, noLine, readEntry, readLines}
 use Rattle.words.specs.Answer.{Departure, Written, leaving}
 use Rattle.words.specs.Writing.{overwrite, departureBytes}
 use Rattle.words.proofs.Lines.{line-at}
-use Rattle.words.proofs.Answered.{answer-departure, answer-flag}
+use Rattle.words.proofs.Answered.{answer-departure}
 use Rattle.ideal.specs.State.{State, Good}
 use Rattle.ideal.specs.Steps.{Brings, turnedAway, admitIn, admitOne, admitAll, admitted, away, departureOf, departOne, departing, departAll, departed, departures, served}
 use Rattle.ideal.proofs.Good.{with, Bring, bring-at, admit-all-good, depart-all-good}
@@ -113,16 +112,6 @@ module _ (s : State) (k : ℕ) (now : State) (inv : now ≡ departed k s) where
 
   pub good-departed : Good s → k ≤ s .lines → Good now
   good-departed g h = subst (λ (z : State). Good z) (sym inv) (depart-all-good s k g h)
-
-flag-byte : (b : Bool) → boolByte b ≡ cond b 1 0
-flag-byte true = refl
-flag-byte false = refl
-
--- one flag more is written
-pub flag-more : (start out last : List ℕ) (at next k b : ℕ) (ds : List Departure) (flags : List Bool) → k < length flags → Written start out at ds (take k flags) → b ≡ boolByte (getD flags k false) → last ≡ overwrite at (b ∷ []) out → next ≡ at + 1 → Written start last next ds (take (k + 1) flags)
-flag-more start out last at next k b ds flags h w e f g =
-    subst (λ (fs : List Bool). Written start last next ds fs) (sym (take-more flags k false h))
-    (answer-flag start out last at next ds (take k flags) (getD flags k false) w (f ∙ ap (λ (x : ℕ). overwrite at (x ∷ []) out) (e ∙ flag-byte (getD flags k false))) g)
 
 -- the flags of the first n inputs
 pub flags-all : (f : ℕ → Bool) (flags : List Bool) (n : ℕ) → length flags ≡ 32 → n ≤ 32 → ((i : ℕ) → i < n → getD flags i false ≡ f i) → take n flags ≡ map f (counting 0 n)

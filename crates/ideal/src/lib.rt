@@ -3,7 +3,7 @@ ghost use mathlib.Core.Path.{_≡_};
 ghost use mathlib.Core.Bool.{true, false};
 ghost use Prim.Native.Nat.{ℕ, _+_, _*_, _^_, _<_, _≤_};
 ghost use mathlib.Core.List.{List, []};
-ghost use lib.ListN.{length, getD, take};
+ghost use lib.ListN.{length, getD};
 ghost use Rattle.std.specs.Options.{Cases};
 ghost use Rattle.buffer.specs.Memory.{enough, fresh};
 ghost use Rattle.words.specs.Writing.{overwrite};
@@ -22,6 +22,7 @@ use words::body_of;
 use words::read_entry;
 use words::write_byte;
 use words::write_departure;
+use words::write_flags;
 
 // How many cells a queue holds.
 pub const ROOM: usize = 256;
@@ -193,16 +194,4 @@ pub fn places_keep_their_bytes() -> u8
     ensures { λ _. ⌜ PlacesKept ⌝ }
 {
     0
-}
-
-// Writes for each input whether its cell was turned away; gives the place behind.
-fn write_flags(out: &mut [u8; 2241], at: usize, lines: u8, turned_away: &[bool; 32]) -> usize
-    requires { ⌜ (lines ≤ 32) × (at + lines ≤ 2241) ⌝ }
-    ensures bytes { λ r. ⌜ ((start : List ℕ) (ds : List Departure) → Written start (now (out .entry)) at ds [] → Written start (now (out .exit)) r ds (take lines (now («turned_away» .entry)))) ⌝ }
-{
-    let mut next = at;
-    for input in 0..lines {
-        next = write_byte(out, next, u8::from(turned_away[input as usize]));
-    }
-    next
 }

@@ -1,15 +1,16 @@
 -- An answer's bytes: how long they are, one more at the end, and that they tell what was answered.
-use mathlib.Core.Path.{_≡_, refl, sym, ap, _∙_}
+use mathlib.Core.Path.{_≡_, refl, sym, ap, subst, _∙_}
 use mathlib.Core.Bool.{Bool, true, false, cond}
 use mathlib.Core.List.{List, [], _∷_, _++_}
 use Prim.Native.Nat.{ℕ, suc, _+_, _*_, _/_, _%_, _^_, _<_, _≤_}
 use native.Mathlib.Nat.{div-div-eq-div-mul}
 use native.Mathlib.Omega.{arith}
+use mir.Val.{boolByte}
 use lib.Dec.{eqb}
-use lib.ListN.{length, take, drop}
+use lib.ListN.{length, getD, take, drop}
 use Rattle.std.specs.declared.option.Option.{Option}
 use Rattle.std.specs.declared.option.Option.the-variants.{Some, None}
-use Rattle.std.proofs.shelf.Lists.{append-assoc, append-nil, length-append, take-at, drop-at}
+use Rattle.std.proofs.shelf.Lists.{append-assoc, append-nil, length-append, take-at, drop-at, take-more}
 use Rattle.std.proofs.shelf.Tests.{ne-eqb, le-ltb}
 use Rattle.crossbox.specs.declared.Cell.{Cell}
 use Rattle.words.proofs.Overwrites.{written-then, overwrite-front, overwrite-behind}
@@ -93,6 +94,16 @@ module _ (start out last : List ℕ) (at next : ℕ) where
   answer-flag ds flags away w q f =
       let m = written-more (answerBytes ds flags) (cond away 1 0 ∷ []) (answerBytes ds (flags ++ (away ∷ []))) (w .bytes) (w .next) q f (one-flag ds flags away) in
       record { bytes = m .0; next = m .1 }
+
+flag-byte : (b : Bool) → boolByte b ≡ cond b 1 0
+flag-byte true = refl
+flag-byte false = refl
+
+-- one flag more is written
+pub flag-more : (start out last : List ℕ) (at next k b : ℕ) (ds : List Departure) (flags : List Bool) → k < length flags → Written start out at ds (take k flags) → b ≡ boolByte (getD flags k false) → last ≡ overwrite at (b ∷ []) out → next ≡ at + 1 → Written start last next ds (take (k + 1) flags)
+flag-more start out last at next k b ds flags h w e f g =
+    subst (λ (fs : List Bool). Written start last next ds fs) (sym (take-more flags k false h))
+    (answer-flag start out last at next ds (take k flags) (getD flags k false) w (f ∙ ap (λ (x : ℕ). overwrite at (x ∷ []) out) (e ∙ flag-byte (getD flags k false))) g)
 
 -- what a buffer then begins with, and what stands behind it
 pub answer-front : (start out : List ℕ) (at : ℕ) (ds : List Departure) (flags : List Bool) →

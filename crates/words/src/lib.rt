@@ -16,6 +16,7 @@ pub use spelling::lines_are_read_as_spelled;
 pub use spelling::written_lines_are_read;
 pub use write::write_byte;
 pub use write::write_departure;
+pub use write::write_flags;
 pub use write::write_refusal;
 
 // The most lines in, and the most lines out.

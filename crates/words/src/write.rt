@@ -1,8 +1,9 @@
 // Writers of answers: each writes at a place of the buffer, and gives the place behind what it wrote.
 ghost use mathlib.Core.Path.{_≡_};
-ghost use mathlib.Core.List.{[], _∷_};
-ghost use Prim.Native.Nat.{_+_, _≤_};
-ghost use lib.ListN.{length};
+ghost use mathlib.Core.List.{List, [], _∷_};
+ghost use Prim.Native.Nat.{ℕ, _+_, _≤_};
+ghost use lib.ListN.{length, take};
+ghost use Rattle.words.specs.Answer.{Departure, Written};
 ghost use Rattle.words.specs.Writing.{overwrite, bigEndian4, departureBytes, refusalBytes};
 use crate::ANSWER_BYTES;
 use crate::BODY;
@@ -78,4 +79,16 @@ pub fn write_refusal(out: &mut [u8; ANSWER_BYTES], fault: Fault) -> usize
 {
     let number = write_byte(out, 0, REFUSAL);
     write_byte(out, number, fault.number())
+}
+
+// Writes for each input whether its cell was turned away; gives the place behind.
+pub fn write_flags(out: &mut [u8; ANSWER_BYTES], at: usize, lines: u8, turned_away: &[bool; 32]) -> usize
+    requires { ⌜ (lines ≤ 32) × (at + lines ≤ 2241) ⌝ }
+    ensures bytes { λ r. ⌜ ((start : List ℕ) (ds : List Departure) → Written start (now (out .entry)) at ds [] → Written start (now (out .exit)) r ds (take lines (now («turned_away» .entry)))) ⌝ }
+{
+    let mut next = at;
+    for input in 0..lines {
+        next = write_byte(out, next, u8::from(turned_away[input as usize]));
+    }
+    next
 }

@@ -2,8 +2,8 @@ use Prim.Native.Nat.{ℕ, _+_}
 use mathlib.Core.Path.{_≡_}
 use mathlib.Core.List.{List, []}
 use lib.ListN.{take}
 use Rattle.words.specs.Answer.{Departure, Written}
-use Rattle.ideal.proofs.write_flags.Given as given
+use Rattle.words.proofs.write.write_flags.Given as given
 
 abbrev pub Inv-loop-input : given.InvT-loop-input
 Inv-loop-input l =

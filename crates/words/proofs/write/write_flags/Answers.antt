@@ -1,6 +1,6 @@
 use native.Mathlib.Omega.{arith}
-use Rattle.ideal.proofs.Loops.{flag-more}
-use Rattle.ideal.proofs.write_flags.Needs as need
+use Rattle.words.proofs.Answered.{flag-more}
+use Rattle.words.proofs.write.write_flags.Needs as need
 
 pub loop-input-again : need.loop-input-again
 loop-input-again c = (
