@@ -82,7 +82,12 @@ pub fn write_refusal(out: &mut [u8; ANSWER_BYTES], fault: Fault) -> usize
 }
 
 // Writes for each input whether its cell was turned away; gives the place behind.
-pub fn write_flags(out: &mut [u8; ANSWER_BYTES], at: usize, lines: u8, turned_away: &[bool; 32]) -> usize
+pub fn write_flags(
+    out: &mut [u8; ANSWER_BYTES],
+    at: usize,
+    lines: u8,
+    turned_away: &[bool; 32],
+) -> usize
     requires { ⌜ (lines ≤ 32) × (at + lines ≤ 2241) ⌝ }
     ensures bytes { λ r. ⌜ ((start : List ℕ) (ds : List Departure) → Written start (now (out .entry)) at ds [] → Written start (now (out .exit)) r ds (take lines (now («turned_away» .entry)))) ⌝ }
 {

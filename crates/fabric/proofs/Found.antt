@@ -1,0 +1,1 @@
+-- What is found from the table is what the model finds.
