@@ -10,3 +10,5 @@ pub mod Transfers
 pub mod Named
 pub mod Places
 pub mod Transferred
+pub mod Stays
+pub mod Bytes

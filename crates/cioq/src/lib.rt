@@ -18,6 +18,7 @@ ghost use Rattle.cioq.specs.Choice.{choiceOf, allWait, judgeChoice};
 ghost use Rattle.cioq.specs.Transfers.{position, Sends, sent, transferOne, transferAll};
 ghost use Rattle.cioq.specs.Departures.{departOne, departureOf, departAll, departingBytes};
 
+mod kept;
 mod search;
 
 use crate::search::first_for;
@@ -26,6 +27,11 @@ use buffer::Head;
 use buffer::Memory;
 use crossbox::Arrival;
 use crossbox::Cell;
+pub use kept::arrivals_stay_within;
+pub use kept::departures_stay_within;
+pub use kept::places_keep_their_bytes;
+pub use kept::settings_stay_within;
+pub use kept::transfer_stays_within;
 use words::BODY;
 use words::NONE;
 use words::body_of;
