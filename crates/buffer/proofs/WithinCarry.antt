@@ -25,6 +25,7 @@ front-within : (n a l : ℕ) (xs : List ℕ) → a + l ≤ n → take l (drop a 
 front-within n a l xs h = same-lists _ _ (simp (length-take, length-drop) (omega arith)) (λ i d z. grind (arith, places))
 
 module _ (m : Mem) (r : ℕ) (span : ℕ) (s : Sound m) (h : r < m .count) (in-span : r * m .room + m .room ≤ span) where
+  -- a row within is what it was
   row-within : row (within (m .places) span m) r ≡ row m r
   row-within = front-within span (r * m .room) (rowLength m r) (m .rows) (omega (arith, s .short r h))
 
@@ -39,6 +40,7 @@ module _ (m : Mem) (r : ℕ) (span : ℕ) (s : Sound m) (h : r < m .count) (in-s
       ∙ map-alike _ _ (row m r) (all-weaker (Owned m (r + 1)) _ place-within (row m r) (s .owned r h))
 
   module _ (k : ℕ) (lt : k < rowLength m r) where
+    -- the place of what stands in a row
     pub placeAt-within : placeAt r k (within (m .places) span m) ≡ placeAt r k m
     placeAt-within = let j : r * m .room + k < span = omega (arith, s .short r h) in getD-take span (m .rows) (r * m .room + k) 0 j
 
@@ -54,6 +56,7 @@ module _ (m : Mem) (r k q j : ℕ) (span : ℕ) (s : Sound m) (h : r < m .count)
   from-end : r * m .room + rowLength m r ≤ length (m .rows)
   from-end = omega (arith, row-end m r s h, s .short r h)
 
+  -- the rows when the place has left the one row
   lower : List ℕ
   lower = edited (r * m .room + k) (r * m .room + rowLength m r) movedDown (m .rows)
 
@@ -72,6 +75,7 @@ module _ (m : Mem) (r k q j : ℕ) (span : ℕ) (s : Sound m) (h : r < m .count)
   unfolding lower
   lower-within = edited-within span (r * m .room + k) (r * m .room + rowLength m r) movedDown (m .rows) (omega arith) (omega (arith, s .short r h)) from-end (down-long m r k span s h from-span lt)
 
+  -- the rows when it stands in the other
   upper-above : drop span (edited (q * m .room + j) (q * m .room + rowLength m q + 1) (movedUp (placeAt r k m)) lower) ≡ drop span (m .rows)
   upper-above =
       edited-above (q * m .room + j) (q * m .room + rowLength m q + 1) span (movedUp (placeAt r k m)) lower (omega arith) to-end (up-fits (placeAt r k m) _ _ lower (omega arith) to-end) (omega arith)

@@ -26,6 +26,7 @@ use Rattle.cioq.specs.Kept.{Bring, PutThere, PlacesKept}
 use Rattle.cioq.proofs.Room.{place-left, row-room}
 use Rattle.cioq.proofs.Arrivals.{all-lines, all-good}
 
+-- what is named at one input changes no bytes
 transfer-cells : (s : State) (i : ℕ) (x : Arrival) → transferOne i x s .mem .cells ≡ s .mem .cells
 transfer-cells s i Nothing = refl
 transfer-cells s i (For o) = refl
@@ -36,6 +37,7 @@ unfolding transferAll
 transferred-cells s ch zero = refl
 transferred-cells s ch (suc k) = transfer-cells (transferAll k ch s) k (ch k) ∙ transferred-cells s ch k
 
+-- what leaves by one output changes no bytes
 depart-cells : (s : State) (o : ℕ) → departOne o s .mem .cells ≡ s .mem .cells
 depart-cells s o =
     cond-both (eqb (rowLength (s .mem) (s .lines + o)) 0) s (withoutFirst o s) (λ (z : State). z .mem .cells ≡ s .mem .cells) (λ t. refl) (λ t. refl)
@@ -60,6 +62,7 @@ same-place s ls k m m' p e f pl =
     }
 
 module _ (s : State) (ls : List Line) (k : ℕ) (z : State) (g : Good z) (is : z ≡ admitAll ls k s) (h : k < z .lines) where
+  -- every place after a cell was put
   put-place : (o : ℕ) → o < z .lines → arrivalsOf ls k ≡ For o → ltb (countOf z o) 256 ≡ true → (p : ℕ) → Place s ls k (z .mem) p → Place s ls (suc k) (withCell k o (getD ls k noLine .body) z .mem) p
   put-place o ho arr e p pl =
       let c : Cell = record { slot = z .slots; input = k; output = o } in
@@ -79,12 +82,14 @@ module _ (s : State) (ls : List Line) (k : ℕ) (z : State) (g : Good z) (is : z
         | inr ne ↦ same-place s ls k (z .mem) (put k (spot k o z) c body (z .mem)) p (getD-set-other (z .mem .cells) (next (z .mem)) p body [] ne) (head-elsewhere (z .mem) k (spot k o z) c body (g .sound) in-count le few some p (λ y. ne (sym y))) pl
       ]
 
+  -- every place after the line of input k
   admit-place : (x : Arrival) → arrivalsOf ls k ≡ x → Brings (z .lines) x (getD ls k noLine .body) → (p : ℕ) → Place s ls k (z .mem) p → Place s ls (suc k) (admitOne k x (getD ls k noLine .body) z .mem) p
   admit-place Nothing e b p pl = same-place s ls k (z .mem) (z .mem) p refl refl pl
   admit-place (For o) e b p pl =
       cond-both (ltb (countOf z o) 256) (withCell k o (getD ls k noLine .body) z) z (λ (y : State). Place s ls (suc k) (y .mem) p)
       (λ t. put-place o (b .0) e t p pl) (λ t. same-place s ls k (z .mem) (z .mem) p refl refl pl)
 
+-- every place after the lines of the first k inputs
 places-admitted : (s : State) (ls : List Line) → Good s → Bring (s .lines) ls → (k : ℕ) → k ≤ s .lines → (p : ℕ) → Place s ls k (admitAll ls k s .mem) p
 unfolding admitAll
 places-admitted s ls g b zero h p = record { bytes = inl refl; free = λ z. z }
@@ -93,6 +98,7 @@ places-admitted s ls g b (suc k) h p =
     admit-place s ls k (admitAll ls k s) (all-good ls k s g (omega arith) b) refl (omega arith) (arrivalsOf ls k) refl
     (subst (λ (n : ℕ). Brings n (arrivalsOf ls k) (getD ls k noLine .body)) (sym e) (b k (omega arith))) p (places-admitted s ls g b k (omega arith) p)
 
+-- bytes are kept
 pub places-kept : PlacesKept
 places-kept =
     record {

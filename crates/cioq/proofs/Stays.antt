@@ -22,7 +22,7 @@ use Rattle.buffer.specs.Lent.{lentTo, beyond, within}
 use Rattle.buffer.proofs.Within.{put-beyond, put-within, remove-beyond, remove-within, reset-beyond, reset-within}
 use Rattle.buffer.proofs.WithinCarry.{held-within, head-within, carry-beyond, carry-within}
 use Rattle.words.specs.Lines.{Line, noLine}
-use Rattle.cioq.specs.State.{State, Good, Counted, countOf}
+use Rattle.cioq.specs.State.{State, Good, Counted, countOf, passed}
 use Rattle.cioq.specs.Spells.{cells, boxOf}
 use Rattle.cioq.specs.Arrivals.{Brings, spot, withCell, admitOne, arrivalsOf, admitAll}
 use Rattle.cioq.specs.Choice.{allWait}
@@ -37,6 +37,10 @@ use Rattle.cioq.proofs.Departures.{departed-lines, departed-good}
 -- nothing done
 pub same-stays : (n : ℕ) (s : State) → StaysWithin n (λ x. x) s
 same-stays n s = record { left = refl; unread = refl }
+
+-- a slot passed
+pub passed-stays : (n : ℕ) (s : State) → StaysWithin n passed s
+passed-stays n s = record { left = refl; unread = refl }
 
 -- one step after another
 pub then-stays : (n : ℕ) (f k : State → State) (s : State) → StaysWithin n f s → StaysWithin n k (f s) → StaysWithin n (λ x. k (f x)) s
@@ -60,9 +64,11 @@ choice-stays n s w f k q a b =
 
 -- a row of the settings: the list of an input, or the store of an output
 module _ (s : State) (g : Good s) (r : ℕ) (h : r < 2 * s .lines) where
+  -- it is one of the 64
   in-count : r < s .mem .count
   in-count = omega (arith, g .few, g .rows)
 
+  -- and ends within what the settings need
   in-span : r * s .mem .room + s .mem .room ≤ 16448 * s .lines
   in-span =
       let l : suc r ≤ 2 * s .lines = omega arith in
@@ -74,12 +80,14 @@ module _ (s : State) (g : Good s) (r : ℕ) (h : r < 2 * s .lines) where
       ap (λ (xs : List Held). map (λ (x : Held). x .cell) xs)
       (subst (λ (p : ℕ). held (within p (16448 * s .lines) (s .mem)) r ≡ held (s .mem) r) (g .places) (held-within (s .mem) r (16448 * s .lines) (g .sound) in-count in-span))
 
+  -- nor does the cell behind its first k
   cell-within : (k : ℕ) → k < rowLength (s .mem) r → cellAt (cut (s .lines) s .mem) r k ≡ cellAt (s .mem) r k
   cell-within k l =
       ap (λ (x : Head). cellOf x)
       (subst (λ (p : ℕ). headAt (within p (16448 * s .lines) (s .mem)) (placeAt r k (within p (16448 * s .lines) (s .mem))) ≡ headAt (s .mem) (placeAt r k (s .mem))) (g .places) (head-within (s .mem) r (16448 * s .lines) (g .sound) in-count in-span k l))
 
 module _ (s : State) (g : Good s) (i o : ℕ) (hi : i < s .lines) (ho : o < s .lines) where
+  -- a cell put into the list of input i
   put-stays : (body : List ℕ) → StaysWithin (s .lines) (withCell i o body) s
   put-stays body =
       let c : Cell = record { slot = s .slots; input = i; output = o } in
@@ -99,12 +107,14 @@ module _ (s : State) (g : Good s) (i o : ℕ) (hi : i < s .lines) (ho : o < s .l
     j : ℕ
     j = placeFor (cellAt (s .mem) i k) (cells (s .mem) (s .lines + o))
 
+    -- both rows are of the settings
     from-row : i < 2 * s .lines
     from-row = omega arith
 
     to-row : s .lines + o < 2 * s .lines
     to-row = omega arith
 
+    -- it is carried within them
     carried-left : beyond (257 * s .lines) (16448 * s .lines) (lentTo (carry i k (s .lines + o) j (s .mem))) ≡ beyond (257 * s .lines) (16448 * s .lines) (lentTo (s .mem))
     unfolding k j
     carried-left =
@@ -117,6 +127,7 @@ module _ (s : State) (g : Good s) (i o : ℕ) (hi : i < s .lines) (ho : o < s .l
         subst (λ (p : ℕ). within p (16448 * s .lines) (carry i k (s .lines + o) j (s .mem)) ≡ carry i k (s .lines + o) j (within p (16448 * s .lines) (s .mem))) (g .places)
         (carry-within (s .mem) i k (s .lines + o) j (16448 * s .lines) (g .sound) (in-count s g i from-row) (send-from s i o g hi ho w) (in-count s g (s .lines + o) to-row) (send-to s i o g hi ho w _) (send-room s i o g hi ho w) (in-span s g i from-row) (in-span s g (s .lines + o) to-row))
 
+    -- what is read to find it does not depend on what lies beyond
     same-place : k ≡ position o (cells (cut (s .lines) s .mem) i)
     unfolding k
     same-place = ap (λ (l : List Cell). position o l) (sym (cells-within s g i from-row))
@@ -132,6 +143,7 @@ module _ (s : State) (g : Good s) (i o : ℕ) (hi : i < s .lines) (ho : o < s .l
         ap (λ (c : Cell). placeFor c (cells (s .mem) (s .lines + o))) same-cell
         ∙ ap (λ (l : List Cell). placeFor (cellAt (cut (s .lines) s .mem) i (position o (cells (cut (s .lines) s .mem) i))) l) (sym (cells-within s g (s .lines + o) to-row))
 
+    -- the first cell for output o sent to its store
     send-stays : StaysWithin (s .lines) (sent i o) s
     unfolding k j
     send-stays =
@@ -144,6 +156,7 @@ module _ (s : State) (g : Good s) (i o : ℕ) (hi : i < s .lines) (ho : o < s .l
               ∙ ap (λ (z : ℕ). carry i (position o (cells (cut (s .lines) s .mem) i)) (s .lines + o) z (cut (s .lines) s .mem)) same-spot));
         }
 
+-- the first cell of a store let go
 remove-stays : (s : State) → Good s → (o : ℕ) → o < s .lines → 0 < rowLength (s .mem) (s .lines + o) → StaysWithin (s .lines) (withoutFirst o) s
 remove-stays s g o ho lt =
     let row : s .lines + o < 2 * s .lines = omega arith in
@@ -152,11 +165,13 @@ remove-stays s g o ho lt =
       unread = ap (λ (m : Mem). record { mem = m; counts = set (s .counts) o (countOf s o - 1); lines = s .lines; slots = s .slots }) (subst (λ (p : ℕ). within p (16448 * s .lines) (remove (s .lines + o) 0 (s .mem)) ≡ remove (s .lines + o) 0 (within p (16448 * s .lines) (s .mem))) (g .places) (remove-within (s .mem) (s .lines + o) 0 (16448 * s .lines) (g .sound) (in-count s g (s .lines + o) row) (in-span s g (s .lines + o) row) lt));
     }
 
+-- what arrives by one input
 admit-stays : (s : State) (i : ℕ) (x : Arrival) (body : List ℕ) → Good s → i < s .lines → Brings (s .lines) x body → StaysWithin (s .lines) (admitOne i x body) s
 admit-stays s i Nothing body g h b = same-stays (s .lines) s
 admit-stays s i (For o) body g h b =
     choice-stays (s .lines) s (λ (z : State). ltb (countOf z o) 256) (withCell i o body) (λ (z : State). z) refl (λ e. put-stays s g i o h (b .0) body) (λ e. same-stays (s .lines) s)
 
+-- what leaves by one output
 depart-stays : (s : State) (o : ℕ) → Good s → o < s .lines → StaysWithin (s .lines) (departOne o) s
 depart-stays s o g h =
     choice-stays (s .lines) s (λ (z : State). eqb (rowLength (z .mem) (z .lines + o)) 0) (λ (z : State). z) (withoutFirst o) refl (λ e. same-stays (s .lines) s) (λ e. remove-stays s g o h (grind (arith, tells)))
@@ -196,15 +211,19 @@ transferred-stays s ch g f w (suc k) h =
     (subst (λ (n : ℕ). StaysWithin n (transferOne k (ch k)) (transferAll k ch s)) e
     (transfer-one-stays (transferAll k ch s) k (ch k) (transferred-good ch s g f w k (omega arith)) (omega arith) (λ o q. let l = f k o (omega arith) q in omega arith) (transferred-waits ch s g f w k (omega arith))))
 
+-- arrivals stay within the settings
 pub arrivals-stay : ArrivalsStayWithin
 arrivals-stay s ls g b = arrived-stays s ls g b (s .lines) (omega arith)
 
+-- so does the transfer of what a choice names
 pub transfer-stays : TransferStaysWithin
 transfer-stays s ch g f w = transferred-stays s ch g f w (s .lines) (omega arith)
 
+-- so do departures
 pub departures-stay : DeparturesStayWithin
 departures-stay s g c = departed-stays s g c (s .lines) (omega arith)
 
+-- so do new settings
 pub settings-stay : SettingsStayWithin
 settings-stay s n g h =
     let hs : 257 * n ≤ length (s .mem .heads) = omega (arith, g .heads-lent) in
