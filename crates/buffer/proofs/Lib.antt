@@ -7,4 +7,5 @@ pub mod Put
 pub mod Remove
 pub mod Reset
 pub mod Within
+pub mod WithinCarry
 pub mod Carry

@@ -17,13 +17,16 @@ use Rattle.buffer.specs.Lent.{Lent, lentTo, beyond, within}
 use Rattle.buffer.proofs.Safety.{row-end, row-few, next-in, place-in, within-rows}
 use Rattle.buffer.proofs.Parts.{edited-above, length-up, length-down}
 
-lent-alike : (h h' : List Head) (c c' : List (List ℕ)) (r r' s s' : List ℕ) → h ≡ h' → c ≡ c' → r ≡ r' → s ≡ s' → _≡_ {A = Lent} (record { heads = h; cells = c; rows = r; spare = s }) (record { heads = h'; cells = c'; rows = r'; spare = s' })
+-- lists that are alike are lent alike
+pub lent-alike : (h h' : List Head) (c c' : List (List ℕ)) (r r' s s' : List ℕ) → h ≡ h' → c ≡ c' → r ≡ r' → s ≡ s' → _≡_ {A = Lent} (record { heads = h; cells = c; rows = r; spare = s }) (record { heads = h'; cells = c'; rows = r'; spare = s' })
 lent-alike h h' c c' r r' s s' p q u v = rw (p, q, u, v)
 
-mem-alike : (m : Mem) (h : List Head) (c : List (List ℕ)) (r s : List ℕ) → h ≡ m .heads → c ≡ m .cells → r ≡ m .rows → s ≡ m .spare → _≡_ {A = Mem} (record { heads = h; cells = c; rows = r; spare = s; lens = m .lens; free = m .free; places = m .places; room = m .room; count = m .count }) m
+-- a memory to which lists are lent that are alike
+pub mem-alike : (m : Mem) (h : List Head) (c : List (List ℕ)) (r s : List ℕ) → h ≡ m .heads → c ≡ m .cells → r ≡ m .rows → s ≡ m .spare → _≡_ {A = Mem} (record { heads = h; cells = c; rows = r; spare = s; lens = m .lens; free = m .free; places = m .places; room = m .room; count = m .count }) m
 mem-alike m h c r s p q u v = rw (p, q, u, v)
 
-take-set-lt : {X : Type 0} (n : ℕ) (xs : List X) (i : ℕ) (x : X) → i < n → take n (set xs i x) ≡ set (take n xs) i x
+-- a change among the first n
+pub take-set-lt : {X : Type 0} (n : ℕ) (xs : List X) (i : ℕ) (x : X) → i < n → take n (set xs i x) ≡ set (take n xs) i x
 take-set-lt zero xs i x h = absurd (omega arith)
 take-set-lt (suc n) [] i x h = refl
 take-set-lt (suc n) (y ∷ ys) zero x h = refl
@@ -38,7 +41,7 @@ joined-within n a k ys xs e h l =
     same-lists _ _ (simp (length-take, length-append, length-drop) (omega arith)) (λ i d z. grind (arith, places))
 
 -- so is a change of it
-edited-within : (n a e : ℕ) (f : List ℕ → List ℕ) (xs : List ℕ) → a ≤ e → e ≤ n → e ≤ length xs → length (f (take (e - a) (drop a xs))) ≡ e - a → take n (edited a e f xs) ≡ edited a e f (take n xs)
+pub edited-within : (n a e : ℕ) (f : List ℕ → List ℕ) (xs : List ℕ) → a ≤ e → e ≤ n → e ≤ length xs → length (f (take (e - a) (drop a xs))) ≡ e - a → take n (edited a e f xs) ≡ edited a e f (take n xs)
 edited-within n a e f xs h l k q =
     joined-within n a (e - a) (f (take (e - a) (drop a xs))) xs q (omega arith) (omega arith)
     ∙ ap (λ (ys : List ℕ). take a (take n xs) ++ (f ys ++ drop (e - a) (drop a (take n xs)))) (sym (part-within n a e xs h l))
@@ -73,7 +76,8 @@ module _ (m : Mem) (r k : ℕ) (span : ℕ) (s : Sound m) (h : r < m .count) (in
         refl
 
   module _ (lt : k < rowLength m r) where
-    down-long : length (movedDown (take (r * m .room + rowLength m r - (r * m .room + k)) (drop (r * m .room + k) (m .rows)))) ≡ r * m .room + rowLength m r - (r * m .room + k)
+    -- the part of a row that is moved down stays as long
+    pub down-long : length (movedDown (take (r * m .room + rowLength m r - (r * m .room + k)) (drop (r * m .room + k) (m .rows)))) ≡ r * m .room + rowLength m r - (r * m .room + k)
     down-long =
         let e = row-end m r s h in
         let l = s .short r h in

@@ -14,3 +14,5 @@ pub mod Transferred
 pub mod Judging
 pub mod Judged
 pub mod Printed
+pub mod Stays
+pub mod Bytes

@@ -5,3 +5,4 @@ pub mod Departures
 pub mod Choice
 pub mod Transfers
 pub mod Bits
+pub mod Kept

@@ -21,6 +21,7 @@ ghost use Rattle.cioq.specs.Departures.{departOne, departureOf, departAll, dep
 
 mod bits;
 mod judge;
+mod kept;
 mod search;
 
 use crate::search::count_earlier;
@@ -31,6 +32,11 @@ use buffer::Memory;
 use crossbox::Arrival;
 use crossbox::Cell;
 pub use judge::taken_choices_are_stable;
+pub use kept::arrivals_stay_within;
+pub use kept::departures_stay_within;
+pub use kept::places_keep_their_bytes;
+pub use kept::settings_stay_within;
+pub use kept::transfer_stays_within;
 use words::BODY;
 use words::NONE;
 use words::body_of;
