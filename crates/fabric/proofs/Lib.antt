@@ -1,2 +1,5 @@
 pub mod Lists
-pub mod Found
+pub mod Choice
+pub mod History
+pub mod Stages
+pub mod Slot

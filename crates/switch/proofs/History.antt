@@ -79,7 +79,7 @@ queue-young room n o (a ∷ past) =
     young-rest (suc (length past)) (admitted room n (length past) o a (queue room n o past)) (young-admitted room n (length past) o a (queue room n o past) (older (length past) (queue room n o past) (queue-young room n o past)))
 
 -- a cell that came before keeps its bytes
-body-old : (s : SlotIn) (past : List SlotIn) (c : Cell) → c .slot < length past → bodyIn (s ∷ past) c ≡ bodyIn past c
+pub body-old : (s : SlotIn) (past : List SlotIn) (c : Cell) → c .slot < length past → bodyIn (s ∷ past) c ≡ bodyIn past c
 unfolding bodyIn
 body-old s past c h =
     cond-false (eqb (c .slot) (length past)) (s .bodies (c .input)) (bodyIn past c) (ne-eqb (c .slot) (length past) (λ e. omega arith))

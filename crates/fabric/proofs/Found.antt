@@ -1,1 +1,0 @@
--- What is found from the table is what the model finds.
