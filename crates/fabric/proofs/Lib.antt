@@ -3,3 +3,4 @@ pub mod Choice
 pub mod History
 pub mod Stages
 pub mod Slot
+pub mod Turns

@@ -118,6 +118,12 @@ module _ (s : State) (past : List SlotIn) (bytes : List ℕ) (h : Runs s (s .lin
   clock : s .slots ≡ length (respond.arrived past)
   clock = h .slots ∙ sym time
 
+  -- what is turned away is what the ideal box turns away
+  pub away-is : (i : ℕ) → i < s .lines → away (slotLines (s .lines) bytes) s i ≡ rejected 256 (s .lines) i (respond.arrived past) (slotOf (slotLines (s .lines) bytes) .arrivals)
+  away-is i k =
+      admitted-away (bodyIn new) (slotLines (s .lines) bytes) s (boxAfter (s .lines) (respond.arrived past)) (h .good) brings old-spells (h .counts) own-bytes i k
+      ∙ (ap (λ (b : Bool). not b) (same-rejected 256 (s .lines) (respond.arrived past) (boxAfter (s .lines) (respond.arrived past)) run (arrivalsOf (slotLines (s .lines) bytes)) i) ∙ not-not (rejected 256 (s .lines) i (respond.arrived past) (arrivalsOf (slotLines (s .lines) bytes))))
+
   -- cells have arrived
   pub first-stage : (s₁ : State) → s₁ ≡ admitAll (slotLines (s .lines) bytes) (s .lines) s → Stage (bodyIn new) (s .lines) (suc (length (respond.arrived past))) (s .slots) s₁ one
   first-stage s₁ e =
@@ -193,8 +199,7 @@ module _ (s : State) (past : List SlotIn) (bytes : List ℕ) (h : Runs s (s .lin
           (λ i k.
           w i (omega (arith, h .good .few))
           ∙ (ap (λ (b : Bool). b && away (slotLines (s .lines) bytes) s i) (lt-ltb i (s .lines) k)
-          ∙ (admitted-away (bodyIn new) (slotLines (s .lines) bytes) s (boxAfter (s .lines) (respond.arrived past)) (h .good) brings old-spells (h .counts) own-bytes i k
-          ∙ (ap (λ (b : Bool). not b) (same-rejected 256 (s .lines) (respond.arrived past) (boxAfter (s .lines) (respond.arrived past)) run (arrivalsOf (slotLines (s .lines) bytes)) i) ∙ not-not (rejected 256 (s .lines) i (respond.arrived past) (arrivalsOf (slotLines (s .lines) bytes)))))))
+          ∙ away-is i k))
 
       left : beyond (257 * s .lines) (16448 * s .lines) (lentTo (s₄ .mem)) ≡ beyond (257 * s .lines) (16448 * s .lines) (lentTo (s .mem))
       left =

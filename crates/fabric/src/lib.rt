@@ -12,9 +12,12 @@ ghost use mathlib.Core.Bool.{true, false};
 ghost use Rattle.std.specs.Options.{Cases};
 ghost use Rattle.std.specs.declared.result.Result.the-variants.{Ok};
 ghost use Rattle.buffer.specs.Memory.{enough, fresh};
-ghost use Rattle.words.specs.Lines.{judge, verdict};
+ghost use Rattle.words.specs.Lines.{settings, judge, verdict};
 ghost use Rattle.switch.specs.Respond.{SlotIn};
-ghost use Rattle.fabric.specs.Real.{Tied, Runs, upTo};
+ghost use lib.Dec.{leb};
+ghost use Rattle.buffer.specs.Lent.{lentTo};
+ghost use Rattle.fabric.specs.Real.{Tied, Runs, Shows, upTo};
+ghost use Rattle.fabric.specs.Turns.{Settled, Slotted, stepOf};
 ghost use Rattle.fabric.specs.Served.{Served};
 use buffer::Head;
 use cioq::RealBox;
@@ -116,5 +119,60 @@ impl<'a> Fabric<'a> {
         self.real.transfer(&second.choice);
         self.real.pass();
         write_flags(out, left, self.real.lines(), &turned_away)
+    }
+}
+
+// Takes a settings word.
+fn take_settings(fabric: &mut Fabric<'_>, word: &[u8], out: &mut [u8; 2241]) -> usize
+    requires { ⌜ Good (state (now fabric .real)) ⌝ }
+    ensures { λ r. ⌜ Settled (settings (now (word .entry))) (state (now (fabric .entry) .real)) (state (now (fabric .exit) .real)) r (now (out .entry)) (now (out .exit)) ⌝ }
+{
+    match read_settings(word) {
+        Ok(lines) => {
+            fabric.real.begin(lines);
+            0
+        }
+        Err(fault) => write_refusal(out, fault),
+    }
+}
+
+// Takes the lines of a slot word.
+fn take_slot(fabric: &mut Fabric<'_>, lines: &[u8], out: &mut [u8; 2241]) -> usize
+    requires { ⌜ ((past : List SlotIn) × Runs (state (now fabric .real)) (state (now fabric .real) .lines) past) ⌝ }
+    ensures { λ r. ⌜ Slotted (judge (state (now (fabric .entry) .real) .lines) 64 (leb 4294967296 (state (now (fabric .entry) .real) .slots)) (now (lines .entry))) (now (lines .entry)) (state (now (fabric .entry) .real)) (state (now (fabric .exit) .real)) r (now (out .entry)) (now (out .exit)) ⌝ }
+{
+    let late = fabric.real.slots() >= SLOT_LIMIT;
+    match judge_lines(fabric.real.lines(), BODY, late, lines) {
+        Ok(()) => fabric.slot(lines, out),
+        Err(fault) => write_refusal(out, fault),
+    }
+}
+
+// What the box is ready for.
+fn ready_for(fabric: &Fabric<'_>) -> Step
+    ensures { λ r. ⌜ r ≡ stepOf (state (now (fabric .entry) .real) .lines) ⌝ }
+{
+    if fabric.real.lines() == 0 {
+        Step::Unset
+    } else {
+        Step::Slot
+    }
+}
+
+pub impl Switch for Fabric<'_> as BoxSwitch {
+    ghost shows = { λ b st. Shows (state (b .real)) st };
+
+    ghost lent = { λ b. lentTo (state (b .real) .mem) };
+
+    ghost width = { λ b. 16448 };
+
+    fn answer(&mut self, word: &[u8], out: &mut [u8; 2241]) -> usize {
+        match (ready_for(self), Kind::of(word)) {
+            (_, Kind::Settings) => take_settings(self, word, out),
+            (Step::Slot, Kind::Slot) => take_slot(self, &word[1..], out),
+            (Step::Unset, Kind::Slot) => write_refusal(out, Fault::Malformed),
+            (_, Kind::Choice) => write_refusal(out, Fault::Malformed),
+            (_, Kind::Unknown) => write_refusal(out, Fault::Malformed),
+        }
     }
 }

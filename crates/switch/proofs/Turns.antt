@@ -212,7 +212,7 @@ slot-turn s after past word bytes r out written h read e f w =
     }
 
 -- the number of lines that settings give
-settings-range : (word : List ℕ) (n : ℕ) → settings word ≡ Ok n → (0 < n) × (n ≤ 32)
+pub settings-range : (word : List ℕ) (n : ℕ) → settings word ≡ Ok n → (0 < n) × (n ≤ 32)
 settings-range [] n e = absurd (let z : _≡_ {A = ℕ} 0 1 = cc in omega arith)
 settings-range (k ∷ []) n e = absurd (let z : _≡_ {A = ℕ} 0 1 = cc in omega arith)
 settings-range (k ∷ (m ∷ [])) n e = in-range (leb 1 m && leb m 32) refl e
