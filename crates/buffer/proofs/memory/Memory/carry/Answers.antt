@@ -60,3 +60,19 @@ returns g c =
     carry-exact (view (c .args .self .now)) (c .args .from) (c .args .k) (c .args .to) (c .args .j) (c .move-down .last .part) (c .move-up .last .part) (c .of .result)
     (c .of .ensures ∙ (ap (λ o. headOf (c .cell .result) (o + 1)) (c .from .ensures) ∙ ap (λ (x : Cell). headOf x (c .args .to + 1)) (c .cell .ensures)))
     (c .move-down .ensures) (c .move-up .ensures)
+
+pub mul-start : need.mul-start
+mul-start g c = omega (arith, row-end (view (c .args .self .now)) (c .args .from) (c .pre .sound) (c .pre .within .0))
+
+pub add-start-2 : need.add-start-2
+add-start-2 g c =
+    omega (arith, row-end (view (c .args .self .now)) (c .args .from) (c .pre .sound) (c .pre .within .0), c .pre .sound .short (c .args .from) (c .pre .within .0))
+
+pub part-move-down-start : need.part-move-down-start
+part-move-down-start g c = omega (arith, c .pre .within .1)
+
+pub part-move-up-start : need.part-move-up-start
+part-move-up-start g c = omega (arith, c .pre .beyond .1)
+
+pub sub-self : need.sub-self
+sub-self g c = omega (arith, c .pre .within .1)
