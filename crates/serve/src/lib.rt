@@ -1,0 +1,13 @@
+// A switch serves a stream of words: frames, or lines of hexadecimal digits.
+mod stream;
+mod whole;
+
+pub use stream::end;
+pub use stream::end_lines;
+pub use stream::serve;
+pub use stream::serve_lines;
+pub use stream::serve_whole;
+pub use whole::ServeError;
+pub use whole::answers;
+pub use whole::answers_of;
+pub use whole::zeros;
