@@ -9,9 +9,10 @@ use lib.Dec.{eqb}
 use lib.ListN.{length, take, drop}
 use Rattle.std.specs.Joined.{joined}
 use Rattle.std.specs.Results.{Cases, isOk}
+use Rattle.std.specs.Vec.{made}
 use Rattle.std.specs.declared.result.Result.{Result}
 use Rattle.std.specs.declared.result.Result.the-variants.{Ok, Err}
-use Rattle.std.proofs.shelf.Lists.{length-append, length-take, take-append-le}
+use Rattle.std.proofs.shelf.Lists.{length-append, length-take, take-append-le, take-rest}
 use Rattle.std.proofs.shelf.Tests.{eqb-true}
 use Rattle.switch.specs.Respond.{Status, respond}
 use Rattle.switch.specs.Promise.{Answers}
@@ -177,3 +178,41 @@ pub word-read :
     r ≡ Ok x → word ≡ cond (isOk r) (wordOf line) [] → slice ≡ word → slice ≡ wordOf line
 word-read line word slice x (Ok y) e items s = s ∙ items
 word-read line word slice x (Err y) e items s = absurd (grind arith)
+
+-- all was served, though memory gave out behind it
+pub served-stopped :
+    {S : Type 0} (shows : S → Status → Type 0) (spell : List ℕ → List ℕ) (ws : List (List ℕ)) (a b : S) (out written : List ℕ) →
+    Served shows spell ws a b out written → Stopped shows spell ws a b out written
+served-stopped shows spell ws a b out written s =
+    record {
+      told = ws;
+      untold = [];
+      more = 0;
+      parts = sym (append-nil ws);
+      few = omega arith;
+      there = omega arith;
+      shown = λ st h. subst (λ z. shows b (after st z)) (sym (append-nil ws)) (s .shown st h);
+      answers = s .answers;
+    }
+
+-- what is kept after the used bytes, or not where memory gave out
+pub served-kept :
+    {S : Type 0} {E : Type 0} (shows : S → Status → Type 0) (spell : List ℕ → List ℕ) (ws : List (List ℕ)) (a b : S)
+    (out written input left kept : List ℕ) (used : ℕ) (r : Result (Unit {0}) E) →
+    Served shows spell ws a b out written →
+    drop used input ≡ left →
+    made r (λ _. kept ≡ drop used input) →
+    Cases r (λ _. Served shows spell ws a b out written × (kept ≡ left)) (λ _. Stopped shows spell ws a b out written)
+served-kept shows spell ws a b out written input left kept used (Ok x) s e k = (s, k ∙ e)
+served-kept shows spell ws a b out written input left kept used (Err x) s e k = served-stopped shows spell ws a b out written s
+
+-- the bytes behind the used ones, as they were copied
+pub copied-rest :
+    {E : Type 0} (was slice cleared copied : List ℕ) (used : ℕ) (x : Unit {0}) (r : Result (Unit {0}) E) →
+    r ≡ Ok x →
+    slice ≡ was →
+    cleared ≡ [] →
+    copied ≡ cond (isOk r) (cleared ++ take (length slice - used) (drop used slice)) cleared → copied ≡ drop used was
+copied-rest was slice cleared copied used x (Ok y) e s n i =
+    i ∙ ap (λ z. z ++ take (length slice - used) (drop used slice)) n ∙ take-rest slice used ∙ ap (drop used) s
+copied-rest was slice cleared copied used x (Err y) e s n i = absurd (grind arith)

@@ -1,7 +1,11 @@
 // A switch serves a stream of words: frames, or lines of hexadecimal digits.
+mod form;
 mod stream;
 mod whole;
 
+pub use form::Form;
+pub use form::serve_end;
+pub use form::serve_pending;
 pub use stream::end;
 pub use stream::end_lines;
 pub use stream::serve;

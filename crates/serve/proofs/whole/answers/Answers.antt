@@ -1,13 +1,22 @@
-use mathlib.Core.Path.{sym, ap, subst}
+use mathlib.Core.Path.{_≡_, sym, refl, subst}
+use mathlib.Core.Bool.{true}
+use mathlib.Core.List.{List}
+use Prim.Native.Nat.{ℕ}
+use Rattle.buffer.specs.declared.Head.{Head}
+use Rattle.buffer.specs.Memory.{enough, fresh}
 use Rattle.switch.specs.Respond.Status.{Unset}
 use Rattle.switch.specs.Best.{Shows}
-use Rattle.ideal.specs.State.{State}
+use Rattle.ideal.specs.State.{State, unset}
 use Rattle.ideal.proofs.Good.{unset-good}
-use mathlib.Core.Path.{refl}
 use Rattle.serve.proofs.whole.answers.Needs as need
+
+-- a box that was just made shows that it is not set
+made-unset :
+    (s : State) (heads : List Head) (cells : List (List ℕ)) (rows spare : List ℕ) →
+    enough 32 256 heads cells rows spare ≡ true → s ≡ unset (fresh 32 256 heads cells rows spare) → Shows s Unset
+made-unset s heads cells rows spare e same =
+    subst (λ (z : State). Shows z Unset) (sym same) (unset-good heads cells rows spare e, refl)
 
 pub answers-of-requires : need.answers-of-requires
 answers-of-requires c κs =
-    let made = c .in-Some .ensures tt in
-    subst (λ (s : State). Shows s Unset) (sym (made .1))
-    (unset-good (c .args .heads .now) (c .args .cells .now) (c .args .rows .now) (c .args .spare .now) (made .0), refl)
+    made-unset _ (c .args .heads .now) (c .args .cells .now) (c .args .rows .now) (c .args .spare .now) (c .in-Some .ensures tt .0) (c .in-Some .ensures tt .1)
