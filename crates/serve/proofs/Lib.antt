@@ -1,3 +1,4 @@
 pub mod Words
 pub mod Turns
 pub mod Loops
+pub mod Made
