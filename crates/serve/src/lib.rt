@@ -12,6 +12,7 @@ pub use stream::serve;
 pub use stream::serve_lines;
 pub use stream::serve_whole;
 pub use whole::ServeError;
+pub use whole::ServeErrorDisplay;
 pub use whole::answers;
 pub use whole::answers_of;
 pub use whole::zeros;

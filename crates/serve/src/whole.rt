@@ -14,14 +14,24 @@ use buffer::Head;
 use ideal::IdealBox;
 use std::alloc::AllocError;
 use std::alloc::Global;
+use std::fmt;
 use switch::BestSwitch;
 use switch::Switch;
 
 // Why a stream was not served.
-#[derive(Debug, Clone, Copy)]
+#[derive(Clone, Copy)]
 pub enum ServeError {
     TooLittleLent,
     OutOfMemory,
+}
+
+pub impl fmt::Display for ServeError as ServeErrorDisplay {
+    fn fmt<W: fmt::Write>(&self, f: &mut fmt::Formatter<W>) -> fmt::Result {
+        match self {
+            ServeError::TooLittleLent => write!(f, "too little memory is lent"),
+            ServeError::OutOfMemory => write!(f, "out of memory"),
+        }
+    }
 }
 
 // Bytes that are all 0.
