@@ -1,11 +1,13 @@
 // A switch serves a stream of words: frames, or lines of hexadecimal digits.
 mod form;
+mod laws;
 mod stream;
 mod whole;
 
 pub use form::Form;
 pub use form::serve_end;
 pub use form::serve_pending;
+pub use laws::served_in_turn;
 pub use stream::end;
 pub use stream::end_lines;
 pub use stream::serve;
