@@ -1,5 +1,5 @@
 -- How words are written in a stream. Assumes nothing.
-use mathlib.Core.List.{List}
+use mathlib.Core.List.{List, _++_}
 use Prim.Native.Nat.{ℕ}
 use Rattle.frames.specs.Streams.{Split}
 use Rattle.frames.specs.Frames.{framed, frames}
@@ -22,3 +22,7 @@ cut Lines = lineWords
 abbrev pub ending : Form → List ℕ → List (List ℕ)
 ending Frames = cutFrame
 ending Lines = lastLine
+
+-- the words of a whole stream
+abbrev pub wholeWords : Form → List ℕ → List (List ℕ)
+wholeWords form bytes = cut form bytes .0 ++ ending form (cut form bytes .1)

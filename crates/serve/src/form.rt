@@ -1,19 +1,23 @@
 // A stream in either form, as it comes by pieces.
 ghost use mathlib.Core.Path.{_≡_};
 ghost use mathlib.Core.Bool.{cond};
-ghost use Prim.Native.Nat.{ℕ, _≤_};
+ghost use Prim.Native.Nat.{ℕ, _<_, _≤_};
 ghost use lib.ListN.{drop};
 ghost use Rattle.std.specs.Of.Vec.{vec-items, vec-len};
 ghost use Rattle.std.specs.Results.{Cases};
 ghost use Rattle.std.specs.Vec.{made};
+ghost use Rattle.std.specs.Joined.{joined};
 ghost use Rattle.switch.specs.Respond.{Status};
-ghost use Rattle.serve.specs.Served.{Served, Stopped, Used};
-ghost use Rattle.serve.specs.Form.{spelled, cut, ending};
+ghost use Rattle.switch.specs.Respond.Status.{Unset};
+ghost use Rattle.serve.specs.Served.{Served, Stopped, Used, answersTo};
+ghost use Rattle.serve.specs.Form.{spelled, cut, ending, wholeWords};
 use crate::stream::end;
 use crate::stream::end_lines;
 use crate::stream::serve;
 use crate::stream::serve_lines;
+use crate::whole::zeros;
 use std::alloc::AllocError;
+use std::alloc::Global;
 use switch::Switch;
 
 // How words are written in a stream: frames with a length, or lines of hexadecimal digits.
@@ -84,4 +88,38 @@ pub fn serve_end<S: Switch>(
         Form::Frames => end(switch, left, buffer, out),
         Form::Lines => end_lines(switch, left, scratch, buffer, out),
     }
+}
+
+// The answers of a switch that is not set yet to a whole stream that comes by pieces of some size.
+pub fn answers_by_pieces<S: Switch>(
+    switch: &mut S,
+    heap: Global,
+    form: Form,
+    input: &[u8],
+    size: usize,
+) -> Result<Vec<u8>, AllocError>
+    requires unset { ⌜ S·Switch .shows (now switch) Unset ⌝ }
+    requires some { ⌜ 0 < size ⌝ }
+    ensures { λ r. ⌜ made r (λ v. vec-items v ≡ joined (spelled form) (answersTo Unset (wholeWords form (now (input .entry))))) ⌝ }
+{
+    let mut buffer = zeros::<2241>();
+    let mut pending = Vec::new(heap);
+    let mut scratch = Vec::new(heap);
+    let mut out = Vec::new(heap);
+    let mut rest = input;
+    while !rest.is_empty() {
+        let (piece, behind) = rest.split_at(size.min(rest.len()));
+        pending.extend_from_slice(piece)?;
+        serve_pending(
+            switch,
+            form,
+            &mut pending,
+            &mut scratch,
+            &mut buffer,
+            &mut out,
+        )?;
+        rest = behind;
+    }
+    serve_end(switch, form, &pending, &mut scratch, &mut buffer, &mut out)?;
+    Ok(out)
 }

@@ -5,6 +5,7 @@ mod stream;
 mod whole;
 
 pub use form::Form;
+pub use form::answers_by_pieces;
 pub use form::serve_end;
 pub use form::serve_pending;
 pub use laws::served_in_turn;

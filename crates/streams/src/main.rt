@@ -1,7 +1,5 @@
 // Streams with the answers that must come of them: each is run whole and by pieces, and compared byte for byte.
-ghost use mathlib.Core.Path.{_≡_};
 ghost use Prim.Native.Nat.{_<_};
-ghost use Rattle.switch.specs.Respond.{Status};
 use buffer::Head;
 use buffer::PLACES;
 use ideal::IdealBox;
@@ -10,16 +8,13 @@ use serve::Form;
 use serve::ServeError;
 use serve::ServeErrorDisplay;
 use serve::answers;
-use serve::serve_end;
-use serve::serve_pending;
-use serve::zeros;
+use serve::answers_by_pieces;
 use std::alloc::AllocError;
 use std::alloc::Global;
 use std::env;
 use std::error::AnyError;
 use std::fs;
 use switch::BestSwitch;
-use switch::Switch;
 
 // How many lines there are at most.
 const LINES: usize = 32;
@@ -46,42 +41,6 @@ fn lend(heap: Global) -> Result<Lent, AllocError> {
     })
 }
 
-// The answers of a switch to a stream of frames that comes by pieces of some size.
-fn by_pieces<S: Switch>(
-    switch: &mut S,
-    heap: Global,
-    input: &[u8],
-    size: usize,
-) -> Result<Vec<u8>, AllocError>
-    requires shown { ⌜ ((st : Status) × S·Switch .shows (now switch) st) ⌝ }
-    requires some { ⌜ 0 < size ⌝ }
-{
-    let mut buffer = zeros::<2241>();
-    let mut pending = Vec::new(heap);
-    let mut scratch = Vec::new(heap);
-    let mut out = Vec::new(heap);
-    for piece in input.chunks(size) {
-        pending.extend_from_slice(piece)?;
-        serve_pending(
-            switch,
-            Form::Frames,
-            &mut pending,
-            &mut scratch,
-            &mut buffer,
-            &mut out,
-        )?;
-    }
-    serve_end(
-        switch,
-        Form::Frames,
-        &pending,
-        &mut scratch,
-        &mut buffer,
-        &mut out,
-    )?;
-    Ok(out)
-}
-
 // The answers of the ideal box to a stream that comes by pieces of some size.
 fn best_by_pieces(
     heap: Global,
@@ -99,7 +58,7 @@ fn best_by_pieces(
     ) else {
         return Err(ServeError::TooLittleLent);
     };
-    match by_pieces(&mut ideal, heap, input, size) {
+    match answers_by_pieces(&mut ideal, heap, Form::Frames, input, size) {
         Ok(bytes) => Ok(bytes),
         Err(_) => Err(ServeError::OutOfMemory),
     }
