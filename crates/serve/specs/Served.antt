@@ -6,8 +6,8 @@ use Prim.Native.Nat.{ℕ, _+_, _≤_}
 use lib.ListN.{length, take, drop}
 use Rattle.std.specs.Joined.{joined}
 use Rattle.std.specs.Options.{valueOr}
+use Rattle.std.specs.Results.{Cases}
 use Rattle.std.specs.declared.result.Result.{Result}
-use Rattle.std.specs.declared.result.Result.the-variants.{Ok, Err}
 use Rattle.frames.specs.Streams.{Split}
 use Rattle.frames.specs.Frames.{frames}
 use Rattle.frames.specs.Hex.{unhex, lines}
@@ -71,6 +71,11 @@ pub record Stopped {S : Type 0} (shows : S → Status → Type 0) (spell : List 
   pub there : more ≤ length untold
   pub shown : (st : Status) → shows was st → shows is (after st (told ++ take more untold))
   pub answers : (st : Status) → shows was st → written ≡ out ++ joined spell (answersTo st told)
+
+-- all words were served, or memory gave out
+abbrev pub Ended : {S E : Type 0} → Result (Unit {0}) E → (S → Status → Type 0) → (List ℕ → List ℕ) → List (List ℕ) → S → S → List ℕ → List ℕ → Type 0
+Ended r shows spell words was is out written =
+    Cases r (λ _. Served shows spell words was is out written) (λ _. Stopped shows spell words was is out written)
 
 -- so many bytes of the input were used, and the rest is what its words leave
 pub record Used (used : ℕ) (input left : List ℕ) : Type 0 where

@@ -9,7 +9,7 @@ ghost use Rattle.std.specs.Vec.{made};
 ghost use Rattle.std.specs.Joined.{joined};
 ghost use Rattle.switch.specs.Respond.{Status};
 ghost use Rattle.switch.specs.Respond.Status.{Unset};
-ghost use Rattle.serve.specs.Served.{Served, Stopped, Used, answersTo};
+ghost use Rattle.serve.specs.Served.{Served, Stopped, Ended, Used, answersTo};
 ghost use Rattle.serve.specs.Form.{spelled, cut, ending, wholeWords};
 use crate::stream::end;
 use crate::stream::end_lines;
@@ -82,7 +82,7 @@ pub fn serve_end<S: Switch>(
     out: &mut Vec<u8>,
 ) -> Result<(), AllocError>
     requires { ⌜ ((st : Status) × S·Switch .shows (now switch) st) ⌝ }
-    ensures { λ r. ⌜ Cases r (λ _. Served (S·Switch .shows) (spelled form) (ending form (now (left .entry))) (now (switch .entry)) (now (switch .exit)) (vec-items (now (out .entry))) (vec-items (now (out .exit)))) (λ _. Stopped (S·Switch .shows) (spelled form) (ending form (now (left .entry))) (now (switch .entry)) (now (switch .exit)) (vec-items (now (out .entry))) (vec-items (now (out .exit)))) ⌝ }
+    ensures { λ r. ⌜ Ended r (S·Switch .shows) (spelled form) (ending form (now (left .entry))) (now (switch .entry)) (now (switch .exit)) (vec-items (now (out .entry))) (vec-items (now (out .exit))) ⌝ }
 {
     match form {
         Form::Frames => end(switch, left, buffer, out),

@@ -7,7 +7,7 @@ ghost use Rattle.std.specs.Results.{Cases};
 ghost use Rattle.frames.specs.Frames.{framed, frames};
 ghost use Rattle.frames.specs.Hex.{hexLine};
 ghost use Rattle.switch.specs.Respond.{Status};
-ghost use Rattle.serve.specs.Served.{Served, Stopped, Used, lineWords, cutFrame, lastLine, streamWords};
+ghost use Rattle.serve.specs.Served.{Served, Stopped, Ended, Used, lineWords, cutFrame, lastLine, streamWords};
 use frames::frame::next_frame;
 use frames::frame::push_frame;
 use frames::hex::next_line;
@@ -24,7 +24,7 @@ fn serve_word<S: Switch>(
     out: &mut Vec<u8>,
 ) -> Result<(), AllocError>
     requires { ⌜ ((st : Status) × S·Switch .shows (now switch) st) ⌝ }
-    ensures { λ r. ⌜ Cases r (λ _. Served (S·Switch .shows) framed (now (word .entry) ∷ []) (now (switch .entry)) (now (switch .exit)) (vec-items (now (out .entry))) (vec-items (now (out .exit)))) (λ _. Stopped (S·Switch .shows) framed (now (word .entry) ∷ []) (now (switch .entry)) (now (switch .exit)) (vec-items (now (out .entry))) (vec-items (now (out .exit)))) ⌝ }
+    ensures { λ r. ⌜ Ended r (S·Switch .shows) framed (now (word .entry) ∷ []) (now (switch .entry)) (now (switch .exit)) (vec-items (now (out .entry))) (vec-items (now (out .exit))) ⌝ }
 {
     let size = switch.answer(word, buffer);
     if size == 0 {
@@ -41,7 +41,7 @@ fn serve_line<S: Switch>(
     out: &mut Vec<u8>,
 ) -> Result<(), AllocError>
     requires { ⌜ ((st : Status) × S·Switch .shows (now switch) st) ⌝ }
-    ensures { λ r. ⌜ Cases r (λ _. Served (S·Switch .shows) hexLine (now (word .entry) ∷ []) (now (switch .entry)) (now (switch .exit)) (vec-items (now (out .entry))) (vec-items (now (out .exit)))) (λ _. Stopped (S·Switch .shows) hexLine (now (word .entry) ∷ []) (now (switch .entry)) (now (switch .exit)) (vec-items (now (out .entry))) (vec-items (now (out .exit)))) ⌝ }
+    ensures { λ r. ⌜ Ended r (S·Switch .shows) hexLine (now (word .entry) ∷ []) (now (switch .entry)) (now (switch .exit)) (vec-items (now (out .entry))) (vec-items (now (out .exit))) ⌝ }
 {
     let size = switch.answer(word, buffer);
     if size == 0 {
@@ -96,7 +96,7 @@ pub fn end<S: Switch>(
     out: &mut Vec<u8>,
 ) -> Result<(), AllocError>
     requires { ⌜ ((st : Status) × S·Switch .shows (now switch) st) ⌝ }
-    ensures { λ r. ⌜ Cases r (λ _. Served (S·Switch .shows) framed (cutFrame (now (left .entry))) (now (switch .entry)) (now (switch .exit)) (vec-items (now (out .entry))) (vec-items (now (out .exit)))) (λ _. Stopped (S·Switch .shows) framed (cutFrame (now (left .entry))) (now (switch .entry)) (now (switch .exit)) (vec-items (now (out .entry))) (vec-items (now (out .exit)))) ⌝ }
+    ensures { λ r. ⌜ Ended r (S·Switch .shows) framed (cutFrame (now (left .entry))) (now (switch .entry)) (now (switch .exit)) (vec-items (now (out .entry))) (vec-items (now (out .exit))) ⌝ }
 {
     if left.is_empty() {
         return Ok(());
@@ -113,7 +113,7 @@ pub fn end_lines<S: Switch>(
     out: &mut Vec<u8>,
 ) -> Result<(), AllocError>
     requires { ⌜ ((st : Status) × S·Switch .shows (now switch) st) ⌝ }
-    ensures { λ r. ⌜ Cases r (λ _. Served (S·Switch .shows) hexLine (lastLine (now (left .entry))) (now (switch .entry)) (now (switch .exit)) (vec-items (now (out .entry))) (vec-items (now (out .exit)))) (λ _. Stopped (S·Switch .shows) hexLine (lastLine (now (left .entry))) (now (switch .entry)) (now (switch .exit)) (vec-items (now (out .entry))) (vec-items (now (out .exit)))) ⌝ }
+    ensures { λ r. ⌜ Ended r (S·Switch .shows) hexLine (lastLine (now (left .entry))) (now (switch .entry)) (now (switch .exit)) (vec-items (now (out .entry))) (vec-items (now (out .exit))) ⌝ }
 {
     if left.is_empty() {
         return Ok(());
@@ -130,7 +130,7 @@ pub fn serve_whole<S: Switch>(
     out: &mut Vec<u8>,
 ) -> Result<(), AllocError>
     requires { ⌜ ((st : Status) × S·Switch .shows (now switch) st) ⌝ }
-    ensures { λ r. ⌜ Cases r (λ _. Served (S·Switch .shows) framed (streamWords (now (input .entry))) (now (switch .entry)) (now (switch .exit)) (vec-items (now (out .entry))) (vec-items (now (out .exit)))) (λ _. Stopped (S·Switch .shows) framed (streamWords (now (input .entry))) (now (switch .entry)) (now (switch .exit)) (vec-items (now (out .entry))) (vec-items (now (out .exit)))) ⌝ }
+    ensures { λ r. ⌜ Ended r (S·Switch .shows) framed (streamWords (now (input .entry))) (now (switch .entry)) (now (switch .exit)) (vec-items (now (out .entry))) (vec-items (now (out .exit))) ⌝ }
 {
     let used = serve(switch, input, buffer, out)?;
     end(switch, &input[used..], buffer, out)
