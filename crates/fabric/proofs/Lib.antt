@@ -4,3 +4,4 @@ pub mod History
 pub mod Stages
 pub mod Slot
 pub mod Turns
+pub mod Laws

@@ -1,3 +1,4 @@
 pub mod Real
 pub mod Served
 pub mod Turns
+pub mod Laws

@@ -14,9 +14,11 @@ ghost use Rattle.std.specs.declared.result.Result.the-variants.{Ok};
 ghost use Rattle.buffer.specs.Memory.{enough, fresh};
 ghost use Rattle.words.specs.Lines.{settings, judge, verdict};
 ghost use Rattle.switch.specs.Respond.{SlotIn};
+ghost use Rattle.switch.specs.Respond.Status.{Unset};
 ghost use lib.Dec.{leb};
 ghost use Rattle.buffer.specs.Lent.{lentTo};
 ghost use Rattle.fabric.specs.Real.{Tied, Runs, Shows, upTo};
+ghost use Rattle.fabric.specs.Laws.{TwoTransfers, FoundIsTaken, ModelIsRun};
 ghost use Rattle.fabric.specs.Turns.{Settled, Slotted, stepOf};
 ghost use Rattle.fabric.specs.Served.{Served};
 use buffer::Head;
@@ -92,7 +94,7 @@ impl<'a> Fabric<'a> {
         rows: &'a mut [u16],
         spare: &'a mut [u16],
     ) -> Option<Fabric<'a>>
-        ensures { λ r. ⌜ Cases r (enough 64 8224 (now (heads .entry)) (now (cells .entry)) (now (rows .entry)) (now (spare .entry)) ≡ false) (λ b. (enough 64 8224 (now (heads .entry)) (now (cells .entry)) (now (rows .entry)) (now (spare .entry)) ≡ true) × (state (b .real) ≡ unset (fresh 64 8224 (now (heads .entry)) (now (cells .entry)) (now (rows .entry)) (now (spare .entry))))) ⌝ }
+        ensures { λ r. ⌜ Cases r (enough 64 8224 (now (heads .entry)) (now (cells .entry)) (now (rows .entry)) (now (spare .entry)) ≡ false) (λ b. (enough 64 8224 (now (heads .entry)) (now (cells .entry)) (now (rows .entry)) (now (spare .entry)) ≡ true) × Shows (state (b .real)) Unset × (state (b .real) .mem ≡ fresh 64 8224 (now (heads .entry)) (now (cells .entry)) (now (rows .entry)) (now (spare .entry)))) ⌝ }
     {
         match RealBox::new(heads, cells, rows, spare) {
             Some(real) => Some(Fabric {
@@ -175,4 +177,25 @@ pub impl Switch for Fabric<'_> as BoxSwitch {
             (_, Kind::Unknown) => write_refusal(out, Fault::Malformed),
         }
     }
+}
+
+// After a slot the lists and stores are the model's, gone over twice by the finding's choices, one cell a line each time.
+pub fn lists_and_stores_are_the_models() -> u8
+    ensures { λ _. ⌜ TwoTransfers ⌝ }
+{
+    0
+}
+
+// The model's box with the finding's choices is reached by a run.
+pub fn the_model_is_a_run() -> u8
+    ensures { λ _. ⌜ ModelIsRun ⌝ }
+{
+    0
+}
+
+// What is found is a choice that passes the test of choices.
+pub fn what_is_found_is_taken() -> u8
+    ensures { λ _. ⌜ FoundIsTaken ⌝ }
+{
+    0
 }
