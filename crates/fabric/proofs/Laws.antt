@@ -60,6 +60,7 @@ found-is-taken r n b p f =
     waits i (Some c) e =
         ap (λ (x : Arrival). waitsIn x (b .waiting i)) (f .sends i ∙ ap (λ (x : Option Cell). shown x) e)
         ∙ lt-ltb 0 (length (forOutput (c .output) (b .waiting i))) (some-length (forOutput (c .output) (b .waiting i)) c (f .leading i c e))
+
     all : (k : ℕ) → allWait k (choiceOf (r .choice)) b ≡ true
     all zero = refl
     all (suc k) = and-from (waitsIn (choiceOf (r .choice) k) (b .waiting k)) (allWait k (choiceOf (r .choice)) b) (waits k (ended n b .kept k) refl) (all k)

@@ -2,8 +2,9 @@
 ghost use Prim.Native.Nat.{_<_};
 use buffer::Head;
 use buffer::PLACES;
+use fabric::BoxSwitch;
+use fabric::Fabric;
 use ideal::IdealBox;
-use ideal::ROOM;
 use serve::Form;
 use serve::ServeError;
 use serve::ServeErrorDisplay;
@@ -16,8 +17,8 @@ use std::error::AnyError;
 use std::fs;
 use switch::BestSwitch;
 
-// How many lines there are at most.
-const LINES: usize = 32;
+// As many rows as the real box has: a list for each input, and a store for each output.
+const ROWS: usize = 64;
 
 // The sizes of the pieces by which a stream comes.
 const SIZES: [usize; 5] = [1, 7, 66, 4096, 65536];
@@ -36,7 +37,7 @@ fn lend(heap: Global) -> Result<Lent, AllocError> {
     Ok(Lent {
         heads: vec![in heap; Head::VACANT; PLACES]?,
         cells: vec![in heap; [0u8; 64]; PLACES]?,
-        rows: vec![in heap; 0u16; LINES * ROOM]?,
+        rows: vec![in heap; 0u16; ROWS * PLACES]?,
         spare: vec![in heap; 0u16; PLACES]?,
     })
 }
@@ -59,6 +60,29 @@ fn best_by_pieces(
         return Err(ServeError::TooLittleLent);
     };
     match answers_by_pieces(&mut ideal, heap, Form::Frames, input, size) {
+        Ok(bytes) => Ok(bytes),
+        Err(_) => Err(ServeError::OutOfMemory),
+    }
+}
+
+// The answers of the real box to a stream that comes by pieces of some size.
+fn box_by_pieces(
+    heap: Global,
+    lent: &mut Lent,
+    input: &[u8],
+    size: usize,
+) -> Result<Vec<u8>, ServeError>
+    requires { ⌜ 0 < size ⌝ }
+{
+    let Some(mut fabric) = Fabric::new(
+        &mut lent.heads,
+        &mut lent.cells,
+        &mut lent.rows,
+        &mut lent.spare,
+    ) else {
+        return Err(ServeError::TooLittleLent);
+    };
+    match answers_by_pieces(&mut fabric, heap, Form::Frames, input, size) {
         Ok(bytes) => Ok(bytes),
         Err(_) => Err(ServeError::OutOfMemory),
     }
@@ -118,6 +142,10 @@ fn check_stream(rt: &LibcRuntime, lent: &mut Lent, name: &str) -> Result<(), Any
     let mut good = judge(rt, name, 0, whole, &expected)?;
     for size in SIZES {
         let result = best_by_pieces(heap, lent, &input, size);
+        if !judge(rt, name, size, result, &expected)? {
+            good = false;
+        }
+        let result = box_by_pieces(heap, lent, &input, size);
         if !judge(rt, name, size, result, &expected)? {
             good = false;
         }
