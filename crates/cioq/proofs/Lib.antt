@@ -1,6 +1,7 @@
 pub mod Room
 pub mod Begun
 pub mod Lists
+pub mod Sets
 pub mod Seeking
 pub mod Arrivals
 pub mod Arrived
@@ -10,3 +11,6 @@ pub mod Transfers
 pub mod Named
 pub mod Places
 pub mod Transferred
+pub mod Judging
+pub mod Judged
+pub mod Printed

@@ -1,9 +1,10 @@
 -- A choice by input: which cells it names, and the lowest of its faults. Assumes nothing.
+use mathlib.Core.Path.{_≡_}
 use mathlib.Core.Bool.{Bool, true, false, cond, not, _&&_, _||_}
 use mathlib.Core.List.{List, [], _∷_}
-use Prim.Native.Nat.{ℕ, zero, suc}
+use Prim.Native.Nat.{ℕ, zero, suc, _<_}
 use lib.Dec.{eqb, ltb}
-use lib.ListN.{length, getD}
+use lib.ListN.{length, getD, set}
 use Rattle.std.specs.declared.option.Option.{Option}
 use Rattle.std.specs.declared.option.Option.the-variants.{Some, None}
 use Rattle.std.specs.declared.result.Result.{Result}
@@ -11,9 +12,9 @@ use Rattle.std.specs.declared.result.Result.the-variants.{Ok, Err}
 use Rattle.crossbox.specs.declared.Arrival.{Arrival}
 use Rattle.crossbox.specs.declared.Arrival.the-variants.{Nothing, For}
 use Rattle.crossbox.specs.declared.Cell.{Cell}
-use Rattle.crossbox.specs.Cells.{Arrivals, earlier}
+use Rattle.crossbox.specs.Cells.{Arrivals, earlier, isIn}
 use Rattle.crossbox.specs.Ideal.{first}
-use Rattle.crossbox.specs.Box.{Box, forOutput}
+use Rattle.crossbox.specs.Box.{Box, Stable, forOutput}
 use Rattle.words.specs.declared.fault.Fault.{Fault}
 use Rattle.words.specs.declared.fault.Fault.the-variants.{NotWaiting, SharedOutput, Unstable}
 
@@ -89,9 +90,25 @@ allSettled (suc k) gets ch b = settled gets (ch k) (b .waiting k) && allSettled 
 abbrev pub getsOf : List Cell → ℕ → Option Cell
 getsOf ms o = firstFor o ms
 
+-- what each output gets, from a list by output
+abbrev pub tableOf : List (Option Cell) → ℕ → Option Cell
+tableOf gets o = getD gets o None
+
+-- a list by output, with a cell noted for its own
+abbrev pub noted : Option Cell → List (Option Cell) → List (Option Cell)
+noted None gets = gets
+noted (Some c) gets = set gets (c .output) (Some c)
+
 -- the lowest fault of a choice: a cell that does not wait, two for one output, one left behind without a reason
 abbrev pub judgeChoice : ℕ → Arrivals → Box → Result (Unit {0}) Fault
 judgeChoice n ch b =
     cond (allWait n ch b)
     (cond (oneOutput n ch) (cond (allSettled n (getsOf (picks n ch b)) ch b) (Ok tt) (Err Unstable)) (Err SharedOutput))
     (Err NotWaiting)
+
+-- A choice is taken just where each cell that it names waits, and it is stable.
+abbrev pub JudgedIsStable : Type 0
+JudgedIsStable =
+    (n : ℕ) (ch : Arrivals) (b : Box) → ((i : ℕ) (c : Cell) → isIn c (b .waiting i) ≡ true → (c .input ≡ i) × (i < n)) →
+    (Ok tt ≡ judgeChoice n ch b → (allWait n ch b ≡ true) × Stable b (picks n ch b))
+    × (allWait n ch b ≡ true → Stable b (picks n ch b) → Ok tt ≡ judgeChoice n ch b)

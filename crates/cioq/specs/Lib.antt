@@ -4,3 +4,4 @@ pub mod Arrivals
 pub mod Departures
 pub mod Choice
 pub mod Transfers
+pub mod Bits

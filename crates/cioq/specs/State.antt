@@ -3,9 +3,11 @@ use mathlib.Core.Path.{_≡_}
 use mathlib.Core.List.{List}
 use Prim.Native.Nat.{ℕ, _+_, _*_, _<_, _≤_}
 use lib.ListN.{length, getD, replicate}
-use Rattle.std.specs.shelf.Lists.{sum}
+use Rattle.std.specs.shelf.Lists.{All, sum}
+use Rattle.crossbox.specs.declared.Cell.{Cell}
 use Rattle.buffer.specs.Memory.{Mem, view, Sound, rowLength, reset}
 use Rattle.cioq.specs.declared.RealBox.{RealBox}
+use Rattle.cioq.specs.Spells.{cells}
 
 -- all that there is: the memory, whose row i is the list of input i and row n + o the store of output o, how many cells are held
 -- for each output, the number of lines, and how many slots there were
@@ -40,6 +42,10 @@ pub record Good (s : State) : Type 0 where
 -- of the cells in the store of an output none is uncounted
 abbrev pub Counted : State → Type 0
 Counted s = (o : ℕ) → o < s .lines → rowLength (s .mem) (s .lines + o) ≤ countOf s o
+
+-- every waiting cell is for one of 32 outputs
+abbrev pub Aimed : State → Type 0
+Aimed s = (i : ℕ) → i < s .lines → All (λ (c : Cell). c .output < 32) (cells (s .mem) i)
 
 -- before the first settings
 abbrev pub unset : Mem → State
