@@ -196,7 +196,7 @@ pub fn places_keep_their_bytes() -> u8
 }
 
 // Writes for each input whether its cell was turned away; gives the place behind.
-fn write_flags(out: &mut [u8; 2241], at: usize, lines: u8, turned_away: &[bool; 32]) -> usize
+pub fn write_flags(out: &mut [u8; 2241], at: usize, lines: u8, turned_away: &[bool; 32]) -> usize
     requires { ⌜ (lines ≤ 32) × (at + lines ≤ 2241) ⌝ }
     ensures bytes { λ r. ⌜ ((start : List ℕ) (ds : List Departure) → Written start (now (out .entry)) at ds [] → Written start (now (out .exit)) r ds (take lines (now («turned_away» .entry)))) ⌝ }
 {

@@ -1,0 +1,5 @@
+pub mod Reading
+pub mod Bodies
+pub mod Within
+pub mod Written
+pub mod Turns

@@ -1,0 +1,3 @@
+pub mod Crowd
+pub mod State
+pub mod Promise
