@@ -1,0 +1,10 @@
+// What the programs share: their arguments, their usage, and the loop that reads, serves and writes.
+mod args;
+mod fault;
+mod program;
+
+pub use fault::CliError;
+pub use fault::CliErrorDisplay;
+pub use fault::FromAlloc;
+pub use program::report;
+pub use program::run;

@@ -1,0 +1,5 @@
+pub mod Words
+pub mod Turns
+pub mod Loops
+pub mod Made
+pub mod Pieces

@@ -1,0 +1,3 @@
+pub mod Served
+pub mod Form
+pub mod Laws
