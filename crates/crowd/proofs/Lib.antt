@@ -3,3 +3,5 @@ pub mod Bodies
 pub mod Within
 pub mod Written
 pub mod Turns
+pub mod Shown
+pub mod Parts

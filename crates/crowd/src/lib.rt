@@ -18,10 +18,16 @@ ghost use Rattle.crowd.specs.Crowd.Status.{Unset, FirstDue};
 ghost use Rattle.crowd.specs.Crowd.Verdict.{Choose};
 ghost use Rattle.crowd.specs.State.{state, Shows, Settled, Slotted, choiceLines, Choosing, Chosen, First, Second, Refused};
 ghost use Rattle.crowd.specs.Promise.{Answers, Keeps, SameAnswer};
+
+mod print;
+
 use buffer::Head;
 use cioq::RealBox;
 use crossbox::Arrival;
 use ideal::write_flags;
+pub use print::Part;
+pub use print::differs;
+pub use print::next_part;
 use words::ANSWER;
 use words::BODY;
 use words::Fault;
