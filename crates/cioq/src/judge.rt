@@ -77,7 +77,7 @@ fn note(gets: &mut [Option<Cell>; 32], picked: Option<Cell>)
 
 impl<'a> RealBox<'a> {
     // The cell that is named at an input, if it waits there.
-    fn named_at(&self, input: u8, arrival: Arrival) -> Option<Cell>
+    pub fn named_at(&self, input: u8, arrival: Arrival) -> Option<Cell>
         requires good { ⌜ Good (state (now self)) ⌝ }
         requires there { ⌜ input < state (now self) .lines ⌝ }
         ensures { λ r. ⌜ r ≡ named arrival (cells (state (now (self .entry)) .mem) input) ⌝ }

@@ -1,0 +1,4 @@
+pub mod Crowd
+pub mod State
+pub mod Promise
+pub mod Parts
