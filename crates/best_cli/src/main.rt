@@ -3,9 +3,9 @@ use buffer::Head;
 use buffer::PLACES;
 use cli::CliError;
 use cli::FromAlloc;
-use ideal::IdealBox;
 use ideal::ROOM;
 use switch::BestSwitch;
+use switch::best_box;
 
 // How many lines there are at most.
 const LINES: usize = 32;
@@ -17,7 +17,7 @@ fn best(rt: &LibcRuntime) -> Result<(), CliError> {
     let mut cells = vec![in heap; [0u8; 64]; PLACES]?;
     let mut rows = vec![in heap; 0u16; LINES * ROOM]?;
     let mut spare = vec![in heap; 0u16; PLACES]?;
-    let Some(mut ideal) = IdealBox::new(&mut heads, &mut cells, &mut rows, &mut spare) else {
+    let Some(mut ideal) = best_box(&mut heads, &mut cells, &mut rows, &mut spare) else {
         return Err(CliError::TooLittleLent);
     };
     cli::run(rt, "best", &mut ideal)

@@ -24,7 +24,6 @@ mod print;
 use buffer::Head;
 use cioq::RealBox;
 use crossbox::Arrival;
-use words::write_flags;
 pub use print::Part;
 pub use print::differs;
 pub use print::next_part;
@@ -36,6 +35,7 @@ use words::judge_lines;
 use words::read_entry;
 use words::read_settings;
 use words::write_byte;
+use words::write_flags;
 use words::write_refusal;
 
 // How many slots a box takes after its settings.

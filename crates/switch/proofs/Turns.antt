@@ -20,7 +20,8 @@ use Rattle.crossbox.specs.declared.Arrival.the-variants.{Nothing, For}
 use Rattle.crossbox.specs.declared.Cell.{Cell}
 use Rattle.crossbox.specs.Cells.{Arrivals}
 use Rattle.crossbox.specs.Ideal.{admitted, rest, first, queue, departure, full, rejected}
-use Rattle.buffer.specs.Memory.{Mem, Held, held, heldAt}
+use Rattle.buffer.specs.declared.Head.{Head}
+use Rattle.buffer.specs.Memory.{Mem, Held, held, heldAt, enough, fresh}
 use Rattle.buffer.specs.Lent.{Lent, lentTo, beyond}
 use Rattle.buffer.proofs.Reset.{reset-row}
 use Rattle.words.specs.declared.fault.Fault.{Fault}
@@ -34,11 +35,11 @@ use Rattle.words.specs.Answer.{Departure, Written, answerBytes}
 use Rattle.words.proofs.Scans.{verdict-good}
 use Rattle.words.proofs.Overwrites.{overwrite-front, overwrite-behind}
 use Rattle.words.proofs.Answered.{answer-front, answer-behind}
-use Rattle.ideal.specs.State.{State, Good, begun}
+use Rattle.ideal.specs.State.{State, Good, begun, unset}
 use Rattle.ideal.specs.Steps.{Reads, admitAll, away, departAll, departures, served, leavers, rejects}
 use Rattle.ideal.specs.Steps as steps
 use Rattle.ideal.specs.Kept as kept
-use Rattle.ideal.proofs.Good.{with, reads-bring, admit-all-good, depart-all-good, begun-good}
+use Rattle.ideal.proofs.Good.{with, reads-bring, admit-all-good, depart-all-good, begun-good, unset-good}
 use Rattle.ideal.proofs.Spelled.{shown, Spells, Dresses, fullFor, admit-all-spelled, away-all-spelled, departures-spelled, left-spelled}
 use Rattle.ideal.proofs.Kept.{slot-stays, settings-stay, places-kept}
 use Rattle.switch.specs.Respond.{Status, Verdict, SlotIn, arrived, bodyIn, slotOf, withBody, slotAnswer, settingsVerdict, slotVerdict, onSlot, byKind, decide, outcome, respond}
@@ -281,3 +282,8 @@ decides-malformed s st word h a b = go (kindOf word) refl
     go Slot e = ap (λ (x : Kind). byKind st x word) e ∙ running st h (λ z. b z e)
     go Choice e = ap (λ (x : Kind). byKind st x word) e
     go Unknown e = ap (λ (x : Kind). byKind st x word) e
+
+-- a box that was made is not set
+pub made-unset : (heads : List Head) (cells : List (List ℕ)) (rows spare : List ℕ) (s : State) → enough 32 256 heads cells rows spare ≡ true → s ≡ unset (fresh 32 256 heads cells rows spare) → Shows s Unset
+made-unset heads cells rows spare s e q =
+    subst (λ (z : State). Shows z Unset) (sym q) (unset-good heads cells rows spare e, refl)

@@ -4,11 +4,16 @@ ghost use mathlib.Core.List.{List};
 ghost use Prim.Native.Nat.{ℕ, _<_};
 ghost use lib.Dec.{leb};
 ghost use lib.ListN.{drop};
+ghost use mathlib.Core.Bool.{true, false};
+ghost use Rattle.std.specs.Options.{Cases};
+ghost use Rattle.buffer.specs.Memory.{enough, fresh};
 ghost use Rattle.buffer.specs.Lent.{lentTo};
+ghost use Rattle.switch.specs.Respond.Status.{Unset};
 ghost use Rattle.words.specs.Lines.{settings, judge};
 ghost use Rattle.ideal.specs.State.{state, Good};
 ghost use Rattle.switch.specs.Best.{Shows, Settled, Slotted, stepOf};
 use crate::Switch;
+use buffer::Head;
 use ideal::IdealBox;
 use words::BODY;
 use words::Fault;
@@ -25,6 +30,21 @@ const SLOT_LIMIT: u64 = 4294967296;
 enum Step {
     Unset,
     Slot,
+}
+
+// An ideal box over what the caller lends, whatever that holds; None where it is too little.
+pub fn best_box<'a>(
+    heads: &'a mut [Head],
+    cells: &'a mut [[u8; 64]],
+    rows: &'a mut [u16],
+    spare: &'a mut [u16],
+) -> Option<IdealBox<'a>>
+    ensures { λ r. ⌜ Cases r (enough 32 256 (now (heads .entry)) (now (cells .entry)) (now (rows .entry)) (now (spare .entry)) ≡ false) (λ b. (enough 32 256 (now (heads .entry)) (now (cells .entry)) (now (rows .entry)) (now (spare .entry)) ≡ true) × Shows (state b) Unset × (state b .mem ≡ fresh 32 256 (now (heads .entry)) (now (cells .entry)) (now (rows .entry)) (now (spare .entry)))) ⌝ }
+{
+    match IdealBox::new(heads, cells, rows, spare) {
+        Some(ideal) => Some(ideal),
+        None => None,
+    }
 }
 
 // Takes a settings word.

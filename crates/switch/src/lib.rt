@@ -9,6 +9,7 @@ ghost use Rattle.switch.specs.Promise.{Answers, Keeps};
 mod best;
 
 pub use best::BestSwitch;
+pub use best::best_box;
 
 // A box that takes words and answers them just as the ideal box does.
 pub trait Switch {
