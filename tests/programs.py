@@ -1,7 +1,7 @@
 #!/usr/bin/env python3
 """Runs the programs as processes and compares what they write with the independent model.
 
-    programs.py [NAME..]      the programs whose answers are the ideal box's; 'best' where none is named
+    programs.py [NAME..]      the programs whose answers are the ideal box's; 'best' and 'box' where none is named
 """
 import os
 import random
@@ -138,7 +138,7 @@ def long_streams(name):
 
 
 def main():
-    for name in sys.argv[1:] or ["best"]:
+    for name in sys.argv[1:] or ["best", "box"]:
         arguments(name)
         files(name)
         prompt(name)
