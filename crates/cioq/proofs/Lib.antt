@@ -13,6 +13,7 @@ pub mod Places
 pub mod Transferred
 pub mod Judging
 pub mod Judged
+pub mod StableNamed
 pub mod Printed
 pub mod Stays
 pub mod Bytes

@@ -6,3 +6,4 @@ pub mod Choice
 pub mod Transfers
 pub mod Bits
 pub mod Kept
+pub mod Named

@@ -9,6 +9,7 @@ ghost use Rattle.crossbox.specs.Promise.{Fits};
 ghost use Rattle.cioq.specs.State.{state, Good, Aimed};
 ghost use Rattle.cioq.specs.Spells.{cells, boxOf};
 ghost use Rattle.cioq.specs.Choice.{choiceOf, waitsIn, allWait, isNamed, oneOutput, named, picks, getsOf, tableOf, noted, beats, settled, allSettled, judgeChoice, JudgedIsStable};
+ghost use Rattle.cioq.specs.Named.{StableIsNamed};
 use crate::RealBox;
 use crate::bits::has;
 use crate::bits::with;
@@ -21,6 +22,13 @@ use words::Fault;
 // A choice is taken just where each cell that it names waits, and it is stable.
 pub fn taken_choices_are_stable() -> u8
     ensures { λ _. ⌜ JudgedIsStable ⌝ }
+{
+    0
+}
+
+// Of a box in order, a choice by input names just the cells of any stable choice, and each of them waits.
+pub fn stable_choices_are_named() -> u8
+    ensures { λ _. ⌜ StableIsNamed ⌝ }
 {
     0
 }

@@ -21,6 +21,7 @@ use crate::search::count_earlier;
 use buffer::Head;
 use buffer::Memory;
 use crossbox::Cell;
+pub use judge::stable_choices_are_named;
 pub use judge::taken_choices_are_stable;
 pub use kept::arrivals_stay_within;
 pub use kept::departures_stay_within;
