@@ -33,7 +33,7 @@ fn print_usage(rt: &LibcRuntime, name: &str) -> Result<(), CliError> {
 }
 
 // Reads what has come to the end of what is pending; false at the end of the input.
-fn read_piece(rt: &LibcRuntime, piece: &mut [u8], pending: &mut Vec<u8>) -> Result<bool, CliError> {
+pub fn read_piece(rt: &LibcRuntime, piece: &mut [u8], pending: &mut Vec<u8>) -> Result<bool, CliError> {
     let mut input = rt.stdin();
     let count = match input.read(piece) {
         Ok(count) => count,
@@ -44,7 +44,7 @@ fn read_piece(rt: &LibcRuntime, piece: &mut [u8], pending: &mut Vec<u8>) -> Resu
 }
 
 // Writes the answers, and lets go of them.
-fn write_answers(rt: &LibcRuntime, out: &mut Vec<u8>) -> Result<(), CliError> {
+pub fn write_answers(rt: &LibcRuntime, out: &mut Vec<u8>) -> Result<(), CliError> {
     if out.is_empty() {
         return Ok(());
     }
