@@ -33,7 +33,11 @@ fn print_usage(rt: &LibcRuntime, name: &str) -> Result<(), CliError> {
 }
 
 // Reads what has come to the end of what is pending; false at the end of the input.
-pub fn read_piece(rt: &LibcRuntime, piece: &mut [u8], pending: &mut Vec<u8>) -> Result<bool, CliError> {
+pub fn read_piece(
+    rt: &LibcRuntime,
+    piece: &mut [u8],
+    pending: &mut Vec<u8>,
+) -> Result<bool, CliError> {
     let mut input = rt.stdin();
     let count = match input.read(piece) {
         Ok(count) => count,

@@ -77,14 +77,28 @@ fn tell_input(
             break;
         }
         let rest = tell_stream(
-            crowd, ideal, form, &pending, &mut word, &mut real, &mut other, &mut out,
+            crowd,
+            ideal,
+            form,
+            &pending,
+            &mut word,
+            &mut real,
+            &mut other,
+            &mut out,
         )?;
         left.extend_from_slice(rest)?;
         keep(&mut pending, &mut left);
         write_text(rt, &mut out)?;
     }
     tell_end(
-        crowd, ideal, form, &pending, &mut word, &mut real, &mut other, &mut out,
+        crowd,
+        ideal,
+        form,
+        &pending,
+        &mut word,
+        &mut real,
+        &mut other,
+        &mut out,
     )?;
     write_text(rt, &mut out)
 }
