@@ -5,3 +5,4 @@ pub mod Written
 pub mod Turns
 pub mod Shown
 pub mod Parts
+pub mod Compared

@@ -1,4 +1,4 @@
 pub mod Crowd
 pub mod State
-pub mod Promise
 pub mod Parts
+pub mod Promise

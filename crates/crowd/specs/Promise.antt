@@ -7,7 +7,11 @@ use lib.ListN.{length, take, drop}
 use Rattle.crossbox.specs.Box.{Box}
 use Rattle.words.specs.declared.fault.Fault.{Fault}
 use Rattle.words.specs.Lines.{Line}
-use Rattle.switch.specs.Respond.{SlotIn, slotAnswer}
+use Rattle.switch.specs.Respond.{SlotIn, slotOf, slotAnswer, respond}
+use Rattle.switch.specs.Respond as ideal
+use Rattle.switch.specs.Respond.Status.{Running}
+use Rattle.switch.specs.Respond.Verdict.{Take}
+use Rattle.crowd.specs.Parts.{partOf}
 use Rattle.crowd.specs.Crowd.{Status, Verdict, decide, crowdRespond}
 use Rattle.crowd.specs.Crowd.Status.{FirstDue}
 use Rattle.crowd.specs.Crowd.Verdict.{Refuse, Choose}
@@ -27,3 +31,8 @@ Keeps st word before after = (fault : Fault) → decide st word ≡ Refuse fault
 abbrev pub SameAnswer : Type 0
 SameAnswer =
     (c : State) (n : ℕ) (s : SlotIn) (past : List SlotIn) (b : Box) (away : List Bool) → Shows c (FirstDue n (s ∷ past) b away) → (word : List ℕ) (ls : List Line) → decide (FirstDue n (s ∷ past) b away) word ≡ Choose ls → crowdRespond (FirstDue n (s ∷ past) b away) word .1 ≡ slotAnswer n past s
+
+-- So the comparison of that answer with the ideal box's to the slot, output by output, finds no difference.
+abbrev pub NoDifference : Type 0
+NoDifference =
+    (c : State) (n : ℕ) (s : SlotIn) (past : List SlotIn) (b : Box) (away : List Bool) → Shows c (FirstDue n (s ∷ past) b away) → (word slot : List ℕ) (ls lines : List Line) → decide (FirstDue n (s ∷ past) b away) word ≡ Choose ls → slotOf lines ≡ s → ideal.decide (Running n past) slot ≡ Take lines → (o : ℕ) → partOf o (drop 1 (crowdRespond (FirstDue n (s ∷ past) b away) word .1)) ≡ partOf o (drop 1 (respond (Running n past) slot .1))
