@@ -17,7 +17,7 @@ ghost use Rattle.crowd.specs.Crowd.{Status, turnOf, decide, crowdRespond};
 ghost use Rattle.crowd.specs.Crowd.Status.{Unset, FirstDue};
 ghost use Rattle.crowd.specs.Crowd.Verdict.{Choose};
 ghost use Rattle.crowd.specs.State.{state, Shows, Settled, Slotted, choiceLines, Choosing, Chosen, First, Second, Refused};
-ghost use Rattle.crowd.specs.Promise.{Answers, Keeps, SameAnswer};
+ghost use Rattle.crowd.specs.Promise.{Answers, Keeps, SameAnswer, SameAsIdeal};
 
 mod print;
 
@@ -229,6 +229,13 @@ impl<'a> Crowd<'a> {
 // For every first choice that is taken, the crowd answers what the ideal box answers to the slot before it.
 pub fn the_same_cells_leave() -> u8
     ensures { λ _. ⌜ SameAnswer ⌝ }
+{
+    0
+}
+
+// So a slot word and a first choice after it are answered as the ideal box answers the slot word.
+pub fn answers_as_the_ideal_box() -> u8
+    ensures { λ _. ⌜ SameAsIdeal ⌝ }
 {
     0
 }
