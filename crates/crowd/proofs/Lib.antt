@@ -5,4 +5,3 @@ pub mod Written
 pub mod Turns
 pub mod Shown
 pub mod Parts
-pub mod Compared

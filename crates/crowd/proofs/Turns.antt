@@ -38,6 +38,7 @@ use Rattle.cioq.specs.Choice.{picks, judgeChoice}
 use Rattle.cioq.proofs.Begun.{begun-good, begun-spells, begun-counts}
 use Rattle.cioq.proofs.Judged.{judged-stable, judged-spelled}
 use Rattle.switch.specs.Respond.{SlotIn, arrived, bodyIn, slotOf, withBody, slotAnswer}
+use Rattle.switch.specs.Respond as ideal
 use Rattle.switch.proofs.History.{counting-alike}
 use Rattle.crowd.specs.declared.Due.{Due}
 use Rattle.crowd.specs.declared.Due.the-variants as due
@@ -47,7 +48,7 @@ use Rattle.crowd.specs.Crowd.{Status, Verdict, dueOf, turnOf, turnsAway, choic
 use Rattle.crowd.specs.Crowd.Status.{Unset, SlotDue, FirstDue, SecondDue}
 use Rattle.crowd.specs.Crowd.Verdict.{Refuse, Begin, Take, Choose}
 use Rattle.crowd.specs.State.{State, Holds, Arrived, arrives, Departed, Shows, Refused, Settled, Taken, Slotted, First, Second, Tried, Chosen, chosen, departuresOf}
-use Rattle.crowd.specs.Promise.{Answers, Keeps, SameAnswer}
+use Rattle.crowd.specs.Promise.{Answers, Keeps, SameAnswer, SameAsIdeal}
 use Rattle.crowd.proofs.Reading.{judge-ok, lines-fit, settings-range}
 use Rattle.crowd.proofs.Within.{run-placed, arrived-placed, departed-placed, arrive-holds, arrive-away, choice-stable, transfer-holds, depart-holds, depart-bytes, next-rising, next-departed, next-run, shows-good}
 
@@ -352,3 +353,36 @@ same-answer c n s past b away h word ls e =
 pub same-turn : (s after : State) (word : List ℕ) (r : ℕ) (out written : List ℕ) → ((st : Status) → Shows s st → TurnDone s after st word r out written) → (n : ℕ) (t : SlotIn) (past : List SlotIn) (b : Box) (away : List Bool) → Shows s (FirstDue n (t ∷ past) b away) → (ls : List Line) → decide (FirstDue n (t ∷ past) b away) word ≡ Choose ls → take r written ≡ slotAnswer n past t
 same-turn s after word r out written f n t past b away h ls e =
     f (FirstDue n (t ∷ past) b away) h .answers .bytes ∙ same-answer s n t past b away h word ls e
+
+-- a slot that is taken is one to the ideal box too
+
+slot-read : (v : Result (List Line) Fault) (ls : List Line) → slotVerdict v ≡ Take ls → v ≡ Ok ls
+slot-read (Ok ms) ls e = let same : ms ≡ ls = cc in ap (λ (x : List Line). Ok x) same
+slot-read (Err fault) ls e = absurd (let z : _≡_ {A = ℕ} 0 1 = cc in omega arith)
+
+no-settings-taken : (v : Result ℕ Fault) (ls : List Line) → settingsVerdict v ≡ Take ls → ⊥
+no-settings-taken (Ok n) ls e = let z : _≡_ {A = ℕ} 0 1 = cc in omega arith
+no-settings-taken (Err fault) ls e = let z : _≡_ {A = ℕ} 0 1 = cc in omega arith
+
+ideal-takes : (n : ℕ) (past : List SlotIn) (b : Box) (word : List ℕ) (ls : List Line) (k : Kind) → byTurn (SlotDue n past b) (turnOf due.Slot k) word ≡ Take ls → ideal.byKind (ideal.Running n past) k word ≡ ideal.Take ls
+ideal-takes n past b word ls kind.Settings e = absurd (no-settings-taken (settings word) ls e)
+ideal-takes n past b word ls kind.Slot e =
+    ap (λ (v : Result (List Line) Fault). ideal.slotVerdict v) (slot-read (judge n 64 (leb 4294967296 (length past)) (drop 1 word)) ls e)
+ideal-takes n past b word ls kind.Choice e = absurd (let z : _≡_ {A = ℕ} 0 1 = cc in omega arith)
+ideal-takes n past b word ls kind.Unknown e = absurd (let z : _≡_ {A = ℕ} 0 1 = cc in omega arith)
+
+-- the answer to a first choice, of a status in a slot
+choice-as-slot : (n : ℕ) (past : List SlotIn) (s : SlotIn) (b : Box) (away : List Bool) (st : Status) → st ≡ FirstDue n (s ∷ past) b away → Arrived n (s ∷ past) b away → (word : List ℕ) (ls : List Line) → decide st word ≡ Choose ls → crowdRespond st word .1 ≡ slotAnswer n past s
+choice-as-slot n past s b away st q a word ls e =
+    let f = subst (λ (x : Status). decide x word ≡ Choose ls) q e in
+    let ok = first-good n (s ∷ past) b away word ls (kindOf word) f in
+    let p = arrived-placed n a in
+    let stable = judged-stable n (arrivalsOf ls) b (λ i d l. (p .waits i d l .0, p .waits i d l .1)) .0 ok .1 in
+    ap (λ (x : Status). crowdRespond x word .1) q ∙ (ap (λ (x : Verdict). outcome (FirstDue n (s ∷ past) b away) x .1) f ∙ ideal-answer n a past s refl (picks n (arrivalsOf ls) b) stable)
+
+pub same-as-ideal : SameAsIdeal
+same-as-ideal c n past b h slot ls e choice ms f =
+    let q : crowdRespond (SlotDue n past b) slot .0 ≡ FirstDue n (slotOf ls ∷ past) (model.arrived 256 n (arrived past) (arrivalsOf ls) b) (turnsAway n b (arrivalsOf ls)) = ap (λ (x : Verdict). outcome (SlotDue n past b) x .0) e in
+    let i = ideal-takes n past b slot ls (kindOf slot) e in
+    choice-as-slot n past (slotOf ls) (model.arrived 256 n (arrived past) (arrivalsOf ls) b) (turnsAway n b (arrivalsOf ls)) (crowdRespond (SlotDue n past b) slot .0) q (arrives (slotOf ls) (h .2)) choice ms f
+    ∙ sym (ap (λ (v : ideal.Verdict). ideal.outcome (ideal.Running n past) v .1) i)

@@ -7,14 +7,11 @@ use lib.ListN.{length, take, drop}
 use Rattle.crossbox.specs.Box.{Box}
 use Rattle.words.specs.declared.fault.Fault.{Fault}
 use Rattle.words.specs.Lines.{Line}
-use Rattle.switch.specs.Respond.{SlotIn, slotOf, slotAnswer, respond}
-use Rattle.switch.specs.Respond as ideal
+use Rattle.switch.specs.Respond.{SlotIn, slotAnswer, respond}
 use Rattle.switch.specs.Respond.Status.{Running}
-use Rattle.switch.specs.Respond.Verdict.{Take}
-use Rattle.crowd.specs.Parts.{partOf}
 use Rattle.crowd.specs.Crowd.{Status, Verdict, decide, crowdRespond}
-use Rattle.crowd.specs.Crowd.Status.{FirstDue}
-use Rattle.crowd.specs.Crowd.Verdict.{Refuse, Choose}
+use Rattle.crowd.specs.Crowd.Status.{SlotDue, FirstDue}
+use Rattle.crowd.specs.Crowd.Verdict.{Refuse, Take, Choose}
 use Rattle.crowd.specs.State.{State, Shows}
 
 -- the first r bytes of a buffer are the answer, and the rest of the buffer is as it was
@@ -32,7 +29,7 @@ abbrev pub SameAnswer : Type 0
 SameAnswer =
     (c : State) (n : ℕ) (s : SlotIn) (past : List SlotIn) (b : Box) (away : List Bool) → Shows c (FirstDue n (s ∷ past) b away) → (word : List ℕ) (ls : List Line) → decide (FirstDue n (s ∷ past) b away) word ≡ Choose ls → crowdRespond (FirstDue n (s ∷ past) b away) word .1 ≡ slotAnswer n past s
 
--- So the comparison of that answer with the ideal box's to the slot, output by output, finds no difference.
-abbrev pub NoDifference : Type 0
-NoDifference =
-    (c : State) (n : ℕ) (s : SlotIn) (past : List SlotIn) (b : Box) (away : List Bool) → Shows c (FirstDue n (s ∷ past) b away) → (word slot : List ℕ) (ls lines : List Line) → decide (FirstDue n (s ∷ past) b away) word ≡ Choose ls → slotOf lines ≡ s → ideal.decide (Running n past) slot ≡ Take lines → (o : ℕ) → partOf o (drop 1 (crowdRespond (FirstDue n (s ∷ past) b away) word .1)) ≡ partOf o (drop 1 (respond (Running n past) slot .1))
+-- A slot word is taken, and then a first choice: the answer is what the ideal box answers to the slot word.
+abbrev pub SameAsIdeal : Type 0
+SameAsIdeal =
+    (c : State) (n : ℕ) (past : List SlotIn) (b : Box) → Shows c (SlotDue n past b) → (slot : List ℕ) (ls : List Line) → decide (SlotDue n past b) slot ≡ Take ls → (choice : List ℕ) (ms : List Line) → decide (crowdRespond (SlotDue n past b) slot .0) choice ≡ Choose ms → crowdRespond (crowdRespond (SlotDue n past b) slot .0) choice .1 ≡ respond (Running n past) slot .1

@@ -17,7 +17,7 @@ ghost use Rattle.crowd.specs.Crowd.{Status, turnOf, decide, crowdRespond};
 ghost use Rattle.crowd.specs.Crowd.Status.{Unset, FirstDue};
 ghost use Rattle.crowd.specs.Crowd.Verdict.{Choose};
 ghost use Rattle.crowd.specs.State.{state, Shows, Settled, Slotted, choiceLines, Choosing, Chosen, First, Second, Refused};
-ghost use Rattle.crowd.specs.Promise.{Answers, Keeps, SameAnswer, NoDifference};
+ghost use Rattle.crowd.specs.Promise.{Answers, Keeps, SameAnswer, SameAsIdeal};
 
 mod print;
 
@@ -233,9 +233,9 @@ pub fn the_same_cells_leave() -> u8
     0
 }
 
-// So the comparison with the ideal box that runs beside it finds no difference.
-pub fn no_difference_is_found() -> u8
-    ensures { λ _. ⌜ NoDifference ⌝ }
+// So a slot word and a first choice after it are answered as the ideal box answers the slot word.
+pub fn answers_as_the_ideal_box() -> u8
+    ensures { λ _. ⌜ SameAsIdeal ⌝ }
 {
     0
 }

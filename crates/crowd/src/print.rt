@@ -147,6 +147,7 @@ fn same_bytes(a: &[u8], b: &[u8]) -> bool
 pub fn differs(real: &[u8], ideal: &[u8], n: u8) -> [bool; 32]
     requires { ⌜ n ≤ 32 ⌝ }
     ensures where_they_differ { λ r. ⌜ ((o : ℕ) → o < n → getD r o false ≡ false → partOf o (now (real .entry)) ≡ partOf o (now (ideal .entry))) ⌝ }
+    ensures alike { λ r. ⌜ (now (real .entry) ≡ now (ideal .entry) → (o : ℕ) → o < n → getD r o false ≡ false) ⌝ }
     ensures where_they_agree { λ r. ⌜ ((o : ℕ) → o < n → partOf o (now (real .entry)) ≡ partOf o (now (ideal .entry)) → getD r o false ≡ false) ⌝ }
 {
     let mut found = [false; 32];

@@ -22,3 +22,12 @@ loop-output-again c =
       c .next-part-other .ensures .rest ∙ behind-more k (c .loop-output .b .now) y (c .loop-output .inv .1),
       told-more (c .loop-output .found) k x y (c .same-bytes .result) few (c .loop-output .inv .2) (λ h. sym p ∙ (c .same-bytes .ensures .0 h ∙ q)) (λ e. c .same-bytes .ensures .1 (p ∙ (e ∙ sym q))),
     )
+
+pub returns : need.returns
+returns c =
+    let t = c .loop-output .inv .2 in
+    record {
+      where-they-differ = λ o h e. t .1 o (omega arith) e;
+      alike = λ e o h. t .2 o (omega arith) (ap (λ (l : List ℕ). partOf o l) e);
+      where-they-agree = λ o h e. t .2 o (omega arith) e;
+    }
