@@ -1,6 +1,7 @@
 // A whole stream in one call: its bytes in, the answers' bytes out.
 ghost use mathlib.Core.Path.{_≡_};
 ghost use mathlib.Core.Bool.{true};
+ghost use lib.ListN.{replicate};
 ghost use Rattle.std.specs.Joined.{joined};
 ghost use Rattle.std.specs.Of.Vec.{vec-items};
 ghost use Rattle.std.specs.Results.{Cases};
@@ -35,7 +36,9 @@ pub impl fmt::Display for ServeError as ServeErrorDisplay {
 }
 
 // Bytes that are all 0.
-pub fn zeros<const N: usize>() -> [u8; N] {
+pub fn zeros<const N: usize>() -> [u8; N]
+    ensures { λ r. ⌜ r ≡ replicate N 0 ⌝ }
+{
     [0; N]
 }
 
