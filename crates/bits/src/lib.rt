@@ -1,4 +1,6 @@
 // Sets of numbers below 32 as bits of a 32-bit number.
+#![tactic(auto)]
+
 ghost use Rattle.std.specs.Prelude.{◌≡◌, ℕ, ◌^◌, ◌<◌, true, not, ◌&&◌, ◌||◌, ◌==◌, bit_or, bit_xor};
 ghost use Rattle.bits.specs.Bits.{is_set, Lowest};
 

@@ -1,4 +1,6 @@
 // The real box as a program: words on standard input, their answers on standard output.
+#![tactic(auto)]
+
 use buffer::{Head, PLACES};
 use cli::CliError;
 use fabric::Fabric;

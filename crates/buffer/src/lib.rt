@@ -1,4 +1,6 @@
 // Lent memory: places for cells, rows of places, and the row of free places.
+#![tactic(auto)]
+
 ghost use Rattle.std.specs.Prelude.{◌≡◌, ℕ, ◌+◌, ◌-◌, ◌*◌, ◌<◌, ◌≤◌, ◌∷◌, ◌++◌, length, replicate};
 ghost use Rattle.std.specs.List.{range_with_len};
 ghost use Rattle.buffer.specs.Head.{vacant, head_of, cell_of};

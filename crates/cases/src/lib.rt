@@ -1,4 +1,6 @@
 // Worked cases of the rules, and what comes near them and is not meant: one function for each theorem, whose contract is the theorem.
+#![tactic(auto)]
+
 ghost use Rattle.cases.specs.Cases.{CasesHold};
 ghost use Rattle.cases.specs.Manner.{OursIsTheModels, OursIsAlike};
 ghost use Rattle.cases.specs.Misses.{MissesGoWrong, LeftBehindIsUnstable, ClosedIsNeverLate, LargestIsLargest};

@@ -1,4 +1,6 @@
 // The real box over lent memory: a list of waiting cells for each input, and a store for each output.
+#![tactic(auto)]
+
 ghost use Rattle.std.specs.Prelude.{◌≡◌, ℕ, ◌+◌, ◌*◌, ◌^◌, ◌<◌, ◌≤◌, true, false, length, MatchOption, slice_index_or};
 ghost use Rattle.crossbox.specs.Cells.{count_earlier};
 ghost use Rattle.buffer.specs.Memory.{enough, fresh};

@@ -1,4 +1,6 @@
 // What the programs share: their arguments, their usage, and the loop that reads, serves and writes.
+#![tactic(auto)]
+
 mod args;
 mod fault;
 mod program;

@@ -1,4 +1,6 @@
 // The model's own types, and one function for each theorem of the model: its contract is the theorem.
+#![tactic(auto)]
+
 ghost use Rattle.std.specs.Prelude.{◌≡◌};
 ghost use Rattle.crossbox.specs.Cells.{earlier};
 ghost use Rattle.crossbox.specs.Machine.{MachineIsQueues};

@@ -1,4 +1,6 @@
 // A real box whose choices come from outside: each is tested before its cells are transferred.
+#![tactic(auto)]
+
 ghost use Rattle.std.specs.Prelude.{◌≡◌, ℕ, ◌≤◌, Bool, true, false, List, ◌∷◌, take, Ok, MatchOption, nat_le};
 ghost use Rattle.crossbox.specs.Box.{Box};
 ghost use Rattle.buffer.specs.Memory.{enough};

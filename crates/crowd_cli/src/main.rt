@@ -1,4 +1,6 @@
 // A crowd as a program: slots and choices on standard input, and what happens in lines of text on standard output.
+#![tactic(auto)]
+
 ghost use Rattle.crowd.specs.Crowd.{Status};
 ghost use Rattle.crowd.specs.State.{state, Shows};
 ghost use Rattle.ideal.specs.State as best;

@@ -1,4 +1,6 @@
 // Streams with the lines that must come of them: each is run, and compared byte for byte.
+#![tactic(auto)]
+
 ghost use Rattle.crowd.specs.Crowd.{Status};
 ghost use Rattle.crowd.specs.State.{state, Shows};
 ghost use Rattle.ideal.specs.State as best;

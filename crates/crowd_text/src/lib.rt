@@ -1,4 +1,6 @@
 // What is printed of the words that a crowd takes, with the ideal box beside it on the same slots.
+#![tactic(auto)]
+
 mod stream;
 mod tell;
 

@@ -1,4 +1,6 @@
 // The real box with the finding's choices, as a switch.
+#![tactic(auto)]
+
 ghost use Rattle.std.specs.Prelude.{◌≡◌, ℕ, ◌+◌, ◌^◌, ◌<◌, ◌≤◌, true, false, List, [], length, Ok, MatchOption, nat_le};
 ghost use Rattle.crossbox.specs.Box.{Box};
 ghost use Rattle.matching.specs.Making.{TableOf};

@@ -1,4 +1,6 @@
 // The ideal box over lent memory: a queue for each output.
+#![tactic(auto)]
+
 ghost use Rattle.std.specs.Prelude.{◌≡◌, ℕ, ◌+◌, ◌*◌, ◌^◌, ◌<◌, ◌≤◌, true, false, List, [], length, MatchOption, slice_index_or};
 ghost use Rattle.buffer.specs.Memory.{enough, fresh};
 ghost use Rattle.words.specs.Writing.{overwrite};

@@ -1,4 +1,6 @@
 // The test of a choice: the lowest of its faults, or none.
+#![tactic(auto)]
+
 ghost use Rattle.std.specs.Prelude.{◌≡◌, ℕ, ◌<◌, ◌≤◌, length, Some, None};
 ghost use Rattle.std.specs.List.{AllByRecursion as All};
 ghost use Rattle.crossbox.specs.Cells.{count_earlier};

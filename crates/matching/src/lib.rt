@@ -1,4 +1,6 @@
 // The finding of a stable choice, over a table of the first waiting cell of each pair of an input and an output.
+#![tactic(auto)]
+
 ghost use Rattle.std.specs.Prelude.{◌≡◌, ℕ, ◌<◌, ◌≤◌, true, not, ◌&&◌, ◌||◌, if◌then◌else◌, ◌==◌, nat_lt, slice_index};
 ghost use Rattle.crossbox.specs.Box.{Box};
 ghost use Rattle.matching.specs.Bits.{is_set};

@@ -1,4 +1,6 @@
 // Places for cells in lent memory: their heads, and, in the specifications, what rows of places hold.
+#![tactic(auto)]
+
 ghost use Rattle.std.specs.Prelude.{◌≡◌};
 ghost use Rattle.places.specs.Head.{head_of, cell_of};
 

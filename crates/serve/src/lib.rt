@@ -1,4 +1,6 @@
 // A switch serves a stream of words: frames, or lines of hexadecimal digits.
+#![tactic(auto)]
+
 mod form;
 mod laws;
 mod stream;

@@ -1,4 +1,6 @@
 // The steps of the real box as functions on its memory. Each function here has a law of them for its contract.
+#![tactic(auto)]
+
 ghost use Rattle.steps.specs.Choice.{JudgedIsStable};
 ghost use Rattle.steps.specs.Named.{StableIsNamed};
 

@@ -1,4 +1,6 @@
 // Streams with the answers that must come of them: each is run whole and by pieces, and compared byte for byte.
+#![tactic(auto)]
+
 ghost use Rattle.std.specs.Prelude.{◌<◌};
 
 use buffer::{Head, PLACES};

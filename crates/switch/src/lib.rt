@@ -1,4 +1,6 @@
 // What a box is to the outside: a word in, an answer out.
+#![tactic(auto)]
+
 ghost use Rattle.std.specs.Prelude.{◌≡◌, ℕ, List};
 ghost use Rattle.buffer.specs.Lent.{Lent};
 ghost use Rattle.switch.specs.Respond.{Status, respond};

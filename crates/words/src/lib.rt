@@ -1,4 +1,6 @@
 // Words: the bytes that a box is given and the bytes that it answers.
+#![tactic(auto)]
+
 pub mod fault;
 pub mod read;
 pub mod spelling;

@@ -1,5 +1,7 @@
 // The two boxes as a library for C. A box is lent whole, with references to the memory that is lent to it; include/zagbolu.h says
 // what a caller owes.
+#![tactic(auto)]
+
 ghost use Rattle.std.specs.Prelude.{◌≡◌, ◌*◌};
 ghost use Rattle.places.specs.Memory.{lent_enough};
 ghost use Rattle.places.specs.Lent.{lent_to};
