@@ -4,11 +4,11 @@ use Rattle.matching.proofs.earliest.Goals as goal
 
 pub loop-rest-init : goal.loop-rest-init
 loop-rest-init c =
-    least_begins c.args.slots.now c.args.o c.args.inputs c.lowest-first.result c.without-lowest-rest.result c.key-least.result c.lowest-first.ensures c.key-least.ensures c.without-lowest-rest.ensures.bits
+    least_begins c.args.slots.now c.args.o c.args.inputs c.lowest-first.result c.without_lowest-rest.result c.key-least.result c.lowest-first.ensures c.key-least.ensures c.without_lowest-rest.ensures.bits
 
 pub loop-rest-preserved : goal.loop-rest-preserved
 loop-rest-preserved c =
-    least_more c.args.slots.now c.args.o c.args.inputs c.lowest-i.result c.loop-rest.rest c.without-lowest-rest-in-loop-rest.result c.loop-rest.least c.key-at-i.result c.min-least.result c.loop-rest.invariant c.lowest-i.ensures c.key-at-i.ensures c.min-least.ensures c.without-lowest-rest-in-loop-rest.ensures.bits
+    least_more c.args.slots.now c.args.o c.args.inputs c.lowest-i.result c.loop-rest.rest c.without_lowest-rest-in-loop-rest.result c.loop-rest.least c.key-at_i.result c.min-least.result c.loop-rest.invariant c.lowest-i.ensures c.key-at_i.ensures c.min-least.ensures c.without_lowest-rest-in-loop-rest.ensures.bits
 
 pub returns : goal.returns
 returns c =

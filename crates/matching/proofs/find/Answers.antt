@@ -29,7 +29,7 @@ asks-preserved c = (
       let keeps = c.answer-reply.result.keeps in
       let refuses = c.answer-reply.result.refuses in
       let row = c.without.result in
-      let now = c.askers-after-asking.result in
+      let now = c.askers_after-asking.result in
       let good = good_after n b ties.placed ties.order k in
       let next = asked_turn n c.requires.0 b c.args.firsts.now ties (after_asks k n b) good st tied.0 c.asks.invariant.0 c.asks.invariant.1 o i keeps refuses row now (record {
         low = c.lowest-o.ensures;
@@ -37,7 +37,7 @@ asks-preserved c = (
         one = c.answer-reply.ensures.keeps;
         other = c.answer-reply.ensures.refuses;
         cleared = c.without.ensures.bits;
-        again = c.askers-after-asking.ensures;
+        again = c.askers_after-asking.ensures;
       }) in
       subst (λ z. Tied n b (after_asks z n b) (turned st o i keeps row now) × ((after_asks z n b).asks ≡ z)) (sym (add-one k)) (next.0, next.1 ∙ ap suc tied.1)),
 )
@@ -58,8 +58,8 @@ answer-reply-requires c =
     let small = choice_small c.args.n c.requires.0 b c.args.firsts.now ties (after_asks c.asks.asks c.args.n b) st (c.asks.invariant.2 b ties).0 c.earliest-i.result in
     (c.earliest-i.ensures.small, (c.lowest-o.ensures.small, small))
 
-pub askers-after-asking-requires : goal.askers-after-asking-requires
-askers-after-asking-requires c =
+pub askers_after-asking-requires : goal.askers_after-asking-requires
+askers_after-asking-requires c =
     let b = c.requires.1.0 in
     let ties = c.requires.1.1 in
     let st : State = record { choice = c.asks.choice; askable = c.asks.askable; asking = c.asks.asking } in
@@ -69,8 +69,8 @@ askers-after-asking-requires c =
     let low = c.lowest-o.ensures in
     (low.small, (low.here, cond_small c.answer-reply.result.refuses before (For o) (prefers_in c.args.firsts.now.places c.earliest-i.result o before) c.answer-reply.ensures.refuses small low.small))
 
-pub overflow-add-asks : goal.overflow-add-asks
-overflow-add-asks c =
+pub overflow_add-asks : goal.overflow_add-asks
+overflow_add-asks c =
     let b = c.requires.1.0 in
     let ties = c.requires.1.1 in
     omega (arith, (c.asks.invariant.2 b ties).1, asks_few c.args.n c.requires.0 b c.args.firsts.now ties c.asks.asks)

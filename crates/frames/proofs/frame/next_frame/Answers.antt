@@ -6,7 +6,7 @@ use Rattle.frames.proofs.frame.next_frame.Goals as goal
 pub returns : goal.returns
 returns c =
     let bytes = c.args.bytes.now in
-    let parts = c.in-ok-word.ensures.cases in
+    let parts = c.in_ok-word.ensures.cases in
     let two : 2 ≤ length bytes = search rules in
     let taken =
     frame-taken bytes (take (length bytes - 2) (drop 2 bytes)) c.from.result two (search rules)
@@ -14,5 +14,5 @@ returns c =
     record {
       value = cc;
       bound = search rules;
-      shorter = shrinks bytes (c.in-ok-word.word.now, c.in-ok-word.rest.now) (cc);
+      shorter = shrinks bytes (c.in_ok-word.word.now, c.in_ok-word.rest.now) (cc);
     }

@@ -3,8 +3,8 @@ use Rattle.std.proofs.lemmas.List.{take_rest}
 use Rattle.frames.proofs.Lines.{passed-more, passed-found, passed_all, shrinks}
 use Rattle.frames.proofs.hex.next_line.Goals as goal
 
-pub returns-then-c-eq-LINE-FEED : goal.returns-then-c-eq-LINE-FEED
-returns-then-c-eq-LINE-FEED c =
+pub returns-then-c-eq-LINE_FEED : goal.returns-then-c-eq-LINE_FEED
+returns-then-c-eq-LINE_FEED c =
     let bytes = c.args.bytes.now in
     let i = c.loop-i.i in
     let found = passed-found bytes i (search rules) (search rules) c.loop-i.invariant in

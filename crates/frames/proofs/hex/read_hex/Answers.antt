@@ -17,9 +17,9 @@ loop-c-preserved c =
     let i = c.loop-c.c-index in
     let step = drop_more line i 0 c.loop-c-test.true in
     let comes =
-    c.read-on-reading.ensures.comes (drop (i + 1) line)
+    c.read_on-reading.ensures.comes (drop (i + 1) line)
     ∙ ap (comes_to c.loop-c.reading (vec_items c.loop-c.word)) (sym step) ∙ c.loop-c.invariant.0 in
-    (comes, c.read-on-reading.ensures.digit, omega arith, c.read-on-reading.ensures.capacity ∙ c.loop-c.invariant.3)
+    (comes, c.read_on-reading.ensures.digit, omega arith, c.read_on-reading.ensures.capacity ∙ c.loop-c.invariant.3)
 
 pub returns-in-Whole : goal.returns-in-Whole
 returns-in-Whole c =

@@ -5,9 +5,9 @@ use Rattle.frames.specs.Reading.{comes_to, begun}
 use Rattle.frames.proofs.Reading.{on-blank, on-high, on-low, on-other, comes_wrong}
 use Rattle.frames.proofs.hex.read_on.Goals as goal
 
-pub returns-then-is-blank : goal.returns-then-is-blank
-returns-then-is-blank c =
-    let blank = sym c.if-is-blank.ensures in
+pub returns-then-is_blank : goal.returns-then-is_blank
+returns-then-is_blank c =
+    let blank = sym c.if-is_blank.ensures in
     record {
       digit = c.requires.digit;
       comes = λ cs. on-blank c.args.reading (vec_items c.args.word.now) cs c.args.c blank;
@@ -15,10 +15,10 @@ returns-then-is-blank c =
       capacity = refl;
     }
 
-pub returns-in-default : goal.returns-in-default
-returns-in-default c =
-    let plain = sym c.if-is-blank.ensures in
-    let none = sym c.in-default.ensures.value in
+pub returns-in_default : goal.returns-in_default
+returns-in_default c =
+    let plain = sym c.if-is_blank.ensures in
+    let none = sym c.in_default.ensures.value in
     record {
       digit = tt;
       comes = λ cs. on-other c.args.reading (vec_items c.args.word.now) cs c.args.c plain none;
@@ -29,7 +29,7 @@ returns-in-default c =
 pub returns-in-Whole : goal.returns-in-Whole
 returns-in-Whole c =
     let bytes = vec_items c.args.word.now in
-    let plain = sym c.if-is-blank.ensures in
+    let plain = sym c.if-is_blank.ensures in
     let some = sym c.in-Some.ensures.value in
     record {
       digit = c.in-Some.ensures.bound;
@@ -44,10 +44,10 @@ returns-in-Whole c =
 pub returns-in-Half : goal.returns-in-Half
 returns-in-Half c =
     let bytes = vec_items c.args.word.now in
-    let plain = sym c.if-is-blank.ensures in
+    let plain = sym c.if-is_blank.ensures in
     let some = sym c.in-Some.ensures.value in
-    let byte : vec_items c.push-reserved.new.self ≡ bytes ++ (c.in-Half.high * digit_values + c.in-Some.value) ∷ [] =
-    c.push-reserved.ensures.items in
+    let byte : vec_items c.push_reserved.new.self ≡ bytes ++ (c.in-Half.high * digit_values + c.in-Some.value) ∷ [] =
+    c.push_reserved.ensures.items in
     record {
       digit = tt;
       comes =
@@ -56,7 +56,7 @@ returns-in-Half c =
           ∙ on-low bytes cs c.in-Half.high c.args.c c.in-Some.value plain some
           ∙ ap (λ z. comes_to z bytes (c.args.c ∷ cs)) (sym c.in-Half.is);
       len = omega (arith, ap begun c.in-Half.is);
-      capacity = c.push-reserved.ensures.capacity;
+      capacity = c.push_reserved.ensures.capacity;
     }
 
 pub returns-in-Wrong : goal.returns-in-Wrong

@@ -2,8 +2,8 @@ use Rattle.std.proofs.Common.{rules}
 use Rattle.words.proofs.Entries.{entry_ends, entry_nothing, entry_short, entry_cell}
 use Rattle.words.proofs.read.read_entry.Goals as goal
 
-pub returns-in-default : goal.returns-in-default
-returns-in-default c = entry_ends c.args.size c.args.bytes.now (search rules)
+pub returns-in_default : goal.returns-in_default
+returns-in_default c = entry_ends c.args.size c.args.bytes.now (search rules)
 
 pub returns-then-first : goal.returns-then-first
 returns-then-first c = entry_nothing c.args.size c.args.bytes.now (search rules) c.if-first.true

@@ -9,8 +9,8 @@ returns c =
     let out = c.args.out.now in
     let cell = c.args.cell in
     let room : at ≤ length out = search rules in
-    let head = written_then at c.write-byte-slot.result (cell.input ∷ []) (big_endian4 cell.slot) out _ _
-    c.write-byte-slot.ensures.bytes c.write-number-carried.ensures.bytes (omega arith) room in
-    let all = written_then at c.write-number-carried.result (cell.input ∷ big_endian4 cell.slot) c.args.body.now out _ _
-    head c.write-body.ensures.bytes (omega arith) room in
-    record { bytes = all; carried = c.write-body.ensures.carried; next = search rules }
+    let head = written_then at c.write_byte-slot.result (cell.input ∷ []) (big_endian4 cell.slot) out _ _
+    c.write_byte-slot.ensures.bytes c.write_number-carried.ensures.bytes (omega arith) room in
+    let all = written_then at c.write_number-carried.result (cell.input ∷ big_endian4 cell.slot) c.args.body.now out _ _
+    head c.write_body.ensures.bytes (omega arith) room in
+    record { bytes = all; carried = c.write_body.ensures.carried; next = search rules }

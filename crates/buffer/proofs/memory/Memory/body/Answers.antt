@@ -3,16 +3,16 @@ use Rattle.buffer.specs.Memory.{view}
 use Rattle.buffer.proofs.Safety.{within_rows, place_in}
 use Rattle.buffer.proofs.memory.Memory.body.Goals as goal
 
-pub overflow-mul-place : goal.overflow-mul-place
-overflow-mul-place g c =
+pub overflow_mul-place : goal.overflow_mul-place
+overflow_mul-place g c =
     omega (arith, within_rows (view c.args.self.now) c.args.row c.args.k c.requires.sound c.requires.within.0 c.requires.within.1)
 
-pub overflow-add-place : goal.overflow-add-place
-overflow-add-place g c =
+pub overflow_add-place : goal.overflow_add-place
+overflow_add-place g c =
     omega (arith, within_rows (view c.args.self.now) c.args.row c.args.k c.requires.sound c.requires.within.0 c.requires.within.1)
 
-pub offset-bounds-self-row : goal.offset-bounds-self-row
-offset-bounds-self-row g c =
+pub offset_bounds-self-row : goal.offset_bounds-self-row
+offset_bounds-self-row g c =
     omega (arith, within_rows (view c.args.self.now) c.args.row c.args.k c.requires.sound c.requires.within.0 c.requires.within.1)
 
 pub bounds-self-row : goal.bounds-self-row

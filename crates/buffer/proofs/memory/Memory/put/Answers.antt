@@ -17,23 +17,23 @@ bounds-self-place-2 g c =
     let e = ap (λ k. get_or c.args.self.now.spare.now k 0) t in
     omega (arith, next_in (view c.args.self.now) c.requires.sound c.requires.left, c.requires.sound.cells_reach, e)
 
-pub overflow-mul-start : goal.overflow-mul-start
-overflow-mul-start g c = omega (arith, row_end (view c.args.self.now) c.args.row c.requires.sound c.requires.within.0)
+pub overflow_mul-start : goal.overflow_mul-start
+overflow_mul-start g c = omega (arith, row_end (view c.args.self.now) c.args.row c.requires.sound c.requires.within.0)
 
-pub offset-bounds-self-start : goal.offset-bounds-self-start
-offset-bounds-self-start g c =
+pub offset_bounds-self-start : goal.offset_bounds-self-start
+offset_bounds-self-start g c =
     omega (arith, row_end (view c.args.self.now) c.args.row c.requires.sound c.requires.within.0)
 
-pub slice-bounds-move-up-end : goal.slice-bounds-move-up-end
-slice-bounds-move-up-end g c =
+pub slice_bounds-move_up-end : goal.slice_bounds-move_up-end
+slice_bounds-move_up-end g c =
     omega (arith, row_end (view c.args.self.now) c.args.row c.requires.sound c.requires.within.0)
 
-pub overflow-add-self : goal.overflow-add-self
-overflow-add-self g c =
+pub overflow_add-self : goal.overflow_add-self
+overflow_add-self g c =
     omega (arith, row_few (view c.args.self.now) c.args.row c.requires.sound c.requires.within.0, c.requires.sound.few)
 
 pub returns : goal.returns
 returns g c =
-    put_exact (view c.args.self.now) c.args.row c.args.k c.taken-top.result.0.len c.move-up.new.part c.args.cell c.args.body c.taken-top.result.1 c.of.result (omega arith) (omega arith)
+    put_exact (view c.args.self.now) c.args.row c.args.k c.taken-top.result.0.len c.move_up.new.part c.args.cell c.args.body c.taken-top.result.1 c.of.result (omega arith) (omega arith)
     (c.of.ensures ∙ ap (λ o. head_of c.args.cell (o + 1)) c.from.ensures)
-    c.move-up.ensures
+    c.move_up.ensures

@@ -4,23 +4,23 @@ use Rattle.buffer.proofs.Safety.{within_rows, place_in, row_end, row_few}
 use Rattle.buffer.proofs.Exact.{remove_exact}
 use Rattle.buffer.proofs.memory.Memory.remove.Goals as goal
 
-pub overflow-mul-start : goal.overflow-mul-start
-overflow-mul-start g c = omega (arith, row_end (view c.args.self.now) c.args.row c.requires.sound c.requires.within.0)
+pub overflow_mul-start : goal.overflow_mul-start
+overflow_mul-start g c = omega (arith, row_end (view c.args.self.now) c.args.row c.requires.sound c.requires.within.0)
 
-pub offset-bounds-self-start : goal.offset-bounds-self-start
-offset-bounds-self-start g c =
+pub offset_bounds-self-start : goal.offset_bounds-self-start
+offset_bounds-self-start g c =
     omega (arith, within_rows (view c.args.self.now) c.args.row c.args.k c.requires.sound c.requires.within.0 c.requires.within.1)
 
 pub bounds-self-start : goal.bounds-self-start
 bounds-self-start g c =
     within_rows (view c.args.self.now) c.args.row c.args.k c.requires.sound c.requires.within.0 c.requires.within.1
 
-pub offset-bounds-self-start-2 : goal.offset-bounds-self-start-2
-offset-bounds-self-start-2 g c =
+pub offset_bounds-self-start-2 : goal.offset_bounds-self-start-2
+offset_bounds-self-start-2 g c =
     omega (arith, within_rows (view c.args.self.now) c.args.row c.args.k c.requires.sound c.requires.within.0 c.requires.within.1)
 
-pub slice-bounds-move-down-end : goal.slice-bounds-move-down-end
-slice-bounds-move-down-end g c =
+pub slice_bounds-move_down-end : goal.slice_bounds-move_down-end
+slice_bounds-move_down-end g c =
     omega (arith, row_end (view c.args.self.now) c.args.row c.requires.sound c.requires.within.0, c.requires.sound.short c.args.row c.requires.within.0)
 
 pub bounds-self-place : goal.bounds-self-place
@@ -33,4 +33,4 @@ bounds-self-top g c =
 
 pub returns : goal.returns
 returns g c =
-    remove_exact (view c.args.self.now) c.args.row c.args.k c.given-top.result.0.len c.move-down.new.part c.given-top.result.1 (omega arith) (omega arith) c.move-down.ensures
+    remove_exact (view c.args.self.now) c.args.row c.args.k c.given-top.result.0.len c.move_down.new.part c.given-top.result.1 (omega arith) (omega arith) c.move_down.ensures
