@@ -14,9 +14,9 @@ loop-input-init c =
       flags_none (away (slot_lines n c.args.bytes.now) (state c.args.self.now)),
     )
 
-pub returns-in-default : goal.returns-in-default
-returns-in-default c =
-    absurd (step_cut (slot_lines c.args.self.now.lines c.args.bytes.now) (state c.args.self.now) (state c.loop-input.self) c.loop-input.input c.loop-input.rest.now c.requires.good (slot_bring c.args.self.now.lines c.args.bytes.now c.requires.read) c.loop-input-test.true c.loop-input.invariant.0 c.loop-input.invariant.1 c.in-default.ensures)
+pub returns-in_default : goal.returns-in_default
+returns-in_default c =
+    absurd (step_cut (slot_lines c.args.self.now.lines c.args.bytes.now) (state c.args.self.now) (state c.loop-input.self) c.loop-input.input c.loop-input.rest.now c.requires.good (slot_bring c.args.self.now.lines c.args.bytes.now c.requires.read) c.loop-input-test.true c.loop-input.invariant.0 c.loop-input.invariant.1 c.in_default.ensures)
 
 pub admit-requires : goal.admit-requires
 admit-requires c =

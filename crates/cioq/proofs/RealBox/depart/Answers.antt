@@ -8,8 +8,8 @@ loop-output-init c =
     let w = start_written (state c.args.self.now) c.args.at c.args.out.now in
     (sym (depart-none (state c.args.self.now)), w.0, w.1, omega arith)
 
-pub depart-one-next-requires : goal.depart-one-next-requires
-depart-one-next-requires c =
+pub depart_one-next-requires : goal.depart_one-next-requires
+depart_one-next-requires c =
     let s = state c.args.self.now in
     let e = c.loop-output.invariant.0 in
     let le : c.loop-output.output ≤ c.args.self.now.lines = omega (arith, c.loop-output-test.true) in
@@ -25,10 +25,10 @@ pub loop-output-preserved : goal.loop-output-preserved
 loop-output-preserved c =
     let s = state c.args.self.now in
     let i = c.loop-output.invariant in
-    let en = c.depart-one-next.ensures in
+    let en = c.depart_one-next.ensures in
     let reach : c.args.at ≤ length c.args.out.now = search rules in (
-      step-departed s (state c.loop-output.self) (state c.depart-one-next.new.self) c.loop-output.output c.args.at c.loop-output.next c.depart-one-next.result c.args.out.now c.loop-output.out c.depart-one-next.new.out i.0 en.after reach i.1 i.2 en.bytes en.next,
-      step_written s (state c.loop-output.self) (state c.depart-one-next.new.self) c.loop-output.output c.args.at c.loop-output.next c.depart-one-next.result c.args.out.now c.loop-output.out c.depart-one-next.new.out i.0 en.after reach i.1 i.2 en.bytes en.next,
-      step-next s (state c.loop-output.self) (state c.depart-one-next.new.self) c.loop-output.output c.args.at c.loop-output.next c.depart-one-next.result c.args.out.now c.loop-output.out c.depart-one-next.new.out i.0 en.after reach i.1 i.2 en.bytes en.next,
+      step-departed s (state c.loop-output.self) (state c.depart_one-next.new.self) c.loop-output.output c.args.at c.loop-output.next c.depart_one-next.result c.args.out.now c.loop-output.out c.depart_one-next.new.out i.0 en.after reach i.1 i.2 en.bytes en.next,
+      step_written s (state c.loop-output.self) (state c.depart_one-next.new.self) c.loop-output.output c.args.at c.loop-output.next c.depart_one-next.result c.args.out.now c.loop-output.out c.depart_one-next.new.out i.0 en.after reach i.1 i.2 en.bytes en.next,
+      step-next s (state c.loop-output.self) (state c.depart_one-next.new.self) c.loop-output.output c.args.at c.loop-output.next c.depart_one-next.result c.args.out.now c.loop-output.out c.depart_one-next.new.out i.0 en.after reach i.1 i.2 en.bytes en.next,
       omega (arith, en.short, i.3),
     )

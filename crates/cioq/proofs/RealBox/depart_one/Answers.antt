@@ -15,7 +15,7 @@ returns c =
     let dep = departure-first s c.args.output full c.cell-cell.result c.body.result.now c.cell-cell.ensures c.body.ensures in
     record {
       after = ap (λ (m : Mem). record { mem = m; counts = set c.args.self.now.held c.args.output (get_or c.args.self.now.held c.args.output 0 - 1); lines = c.args.self.now.lines; slots = c.args.self.now.now }) c.remove.ensures ∙ sym (departs-first s c.args.output full);
-      bytes = c.write-cell-next.ensures.bytes ∙ ap (λ (d : Departure). overwrite c.args.at (leaving d) c.args.out.now) (sym dep);
-      next = c.write-cell-next.ensures.next ∙ ap (λ (d : Departure). c.args.at + length (leaving d)) (sym dep);
-      short = c.write-cell-next.ensures.short;
+      bytes = c.write_cell-next.ensures.bytes ∙ ap (λ (d : Departure). overwrite c.args.at (leaving d) c.args.out.now) (sym dep);
+      next = c.write_cell-next.ensures.next ∙ ap (λ (d : Departure). c.args.at + length (leaving d)) (sym dep);
+      short = c.write_cell-next.ensures.short;
     }

@@ -12,12 +12,12 @@ pub note-requires : goal.note-requires
 note-requires c =
     λ x e.
     let few = c.requires.good.few in
-    let h = named_there c.args.self.now.lines c.loop-input.input (choice_of c.args.choice.now) (cells (view c.args.self.now.memory) c.loop-input.input) c.named-at-picked.result c.named-at-picked.ensures c.requires.fits c.loop-input-test.true x e in
+    let h = named_there c.args.self.now.lines c.loop-input.input (choice_of c.args.choice.now) (cells (view c.args.self.now.memory) c.loop-input.input) c.named_at-picked.result c.named_at-picked.ensures c.requires.fits c.loop-input-test.true x e in
     omega arith
 
 pub loop-input-preserved : goal.loop-input-preserved
 loop-input-preserved c =
-    table_more c.loop-input.gets c.note.new.gets c.loop-input.input (choice_of c.args.choice.now) (box_of c.args.self.now.lines (view c.args.self.now.memory)) c.named-at-picked.result c.named-at-picked.ensures c.note.ensures c.loop-input.invariant
+    table_more c.loop-input.gets c.note.new.gets c.loop-input.input (choice_of c.args.choice.now) (box_of c.args.self.now.lines (view c.args.self.now.memory)) c.named_at-picked.result c.named_at-picked.ensures c.note.ensures c.loop-input.invariant
 
 pub returns : goal.returns
 returns c =

@@ -16,7 +16,7 @@ returns-then-k-len c =
     let m = view c.args.self.now.memory in
     let l = cells m c.args.input in
     let n = cells-length m c.args.input c.requires.good.sound (omega (arith, c.requires.good.rows, c.requires.good.few, c.requires.there)) in
-    sym (ap (λ (x : Arrival). named x l) c.in-For.is ∙ none_named c.in-For.output l (omega (arith, c.first-for-k.ensures, c.len.ensures, c.if-k-len.true)))
+    sym (ap (λ (x : Arrival). named x l) c.in-For.is ∙ none_named c.in-For.output l (omega (arith, c.first_for-k.ensures, c.len.ensures, c.if-k-len.true)))
 
 pub cell-requires : goal.cell-requires
 cell-requires c =
@@ -25,7 +25,7 @@ cell-requires c =
     let few = c.requires.good.few in
     let there = c.requires.there in
     let n = cells-length m c.args.input c.requires.good.sound (omega (arith, c.requires.good.rows)) in
-    (omega arith, (c.requires.good.sound, (omega arith, omega (arith, position_le c.in-For.output l, c.first-for-k.ensures, c.len.ensures, c.if-k-len.false))))
+    (omega arith, (c.requires.good.sound, (omega arith, omega (arith, position_le c.in-For.output l, c.first_for-k.ensures, c.len.ensures, c.if-k-len.false))))
 
 pub returns : goal.returns
 returns c =
@@ -35,9 +35,9 @@ returns c =
     let there = c.requires.there in
     let row : c.args.input < 64 = omega arith in
     let n = cells-length m c.args.input c.requires.good.sound (omega (arith, c.requires.good.rows)) in
-    let p = c.first-for-k.ensures in
+    let p = c.first_for-k.ensures in
     let k : position c.in-For.output l < length l = omega (arith, position_le c.in-For.output l, c.len.ensures, c.if-k-len.false) in
     sym (ap (λ (x : Arrival). named x l) c.in-For.is
     ∙ (first-position c.in-For.output l c.cell.result k
     ∙ (ap (λ (j : ℕ). Some (get_or l j c.cell.result)) (sym p)
-    ∙ ap (λ (x : Cell). Some x) (cells_at m c.args.input c.first-for-k.result c.cell.result c.requires.good.sound (omega (arith, c.requires.good.rows)) (omega arith) ∙ sym c.cell.ensures))))
+    ∙ ap (λ (x : Cell). Some x) (cells_at m c.args.input c.first_for-k.result c.cell.result c.requires.good.sound (omega (arith, c.requires.good.rows)) (omega arith) ∙ sym c.cell.ensures))))

@@ -5,18 +5,18 @@ use Rattle.cioq.specs.Choice.{choice_of, picks, gets_of, table_of}
 use Rattle.cioq.proofs.Judging.{all_settled_alike, judged_unstable, judged_good}
 use Rattle.cioq.proofs.RealBox.test.Goals as goal
 
-pub returns-then-not-all-settled : goal.returns-then-not-all-settled
-returns-then-not-all-settled c =
+pub returns-then-not-all_settled : goal.returns-then-not-all_settled
+returns-then-not-all_settled c =
     let n = c.args.self.now.lines in
     let ch = choice_of c.args.choice.now in
     let b = box_of n (view c.args.self.now.memory) in
-    judged_unstable n ch b (sym c.all_wait_lem.ensures ∙ c.if-not-all-wait.false) (sym c.one-for-each.ensures ∙ c.if-not-one-for-each.false)
-    (sym (all_settled_alike n (table_of c.gets-gets.result) (gets_of (picks n ch b)) ch b c.gets-gets.ensures c.requires.aimed) ∙ (sym c.all-settled.ensures ∙ c.if-not-all-settled.true))
+    judged_unstable n ch b (sym c.all_wait.ensures ∙ c.if-not-all_wait.false) (sym c.one_for_each.ensures ∙ c.if-not-one_for_each.false)
+    (sym (all_settled_alike n (table_of c.gets-gets.result) (gets_of (picks n ch b)) ch b c.gets-gets.ensures c.requires.aimed) ∙ (sym c.all_settled.ensures ∙ c.if-not-all_settled.true))
 
 pub returns : goal.returns
 returns c =
     let n = c.args.self.now.lines in
     let ch = choice_of c.args.choice.now in
     let b = box_of n (view c.args.self.now.memory) in
-    judged_good n ch b (sym c.all_wait_lem.ensures ∙ c.if-not-all-wait.false) (sym c.one-for-each.ensures ∙ c.if-not-one-for-each.false)
-    (sym (all_settled_alike n (table_of c.gets-gets.result) (gets_of (picks n ch b)) ch b c.gets-gets.ensures c.requires.aimed) ∙ (sym c.all-settled.ensures ∙ c.if-not-all-settled.false))
+    judged_good n ch b (sym c.all_wait.ensures ∙ c.if-not-all_wait.false) (sym c.one_for_each.ensures ∙ c.if-not-one_for_each.false)
+    (sym (all_settled_alike n (table_of c.gets-gets.result) (gets_of (picks n ch b)) ch b c.gets-gets.ensures c.requires.aimed) ∙ (sym c.all_settled.ensures ∙ c.if-not-all_settled.false))

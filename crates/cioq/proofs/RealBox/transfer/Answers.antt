@@ -7,8 +7,8 @@ use Rattle.cioq.proofs.RealBox.transfer.Goals as goal
 pub loop-input-init : goal.loop-input-init
 loop-input-init c = sym (transfer-none (choice_of c.args.choice.now) (state c.args.self.now))
 
-pub transfer-one-requires : goal.transfer-one-requires
-transfer-one-requires c =
+pub transfer_one-requires : goal.transfer_one-requires
+transfer_one-requires c =
     let ch = choice_of c.args.choice.now in
     let s = state c.args.self.now in
     let t = state c.loop-input.self in
@@ -22,4 +22,4 @@ transfer-one-requires c =
 pub loop-input-preserved : goal.loop-input-preserved
 loop-input-preserved c =
     let ch = choice_of c.args.choice.now in
-    step_after ch (state c.args.self.now) (state c.loop-input.self) c.loop-input.input c.requires.good c.requires.fits c.requires.waits c.loop-input-test.true c.loop-input.invariant _ (ch c.loop-input.input) refl c.transfer-one.ensures
+    step_after ch (state c.args.self.now) (state c.loop-input.self) c.loop-input.input c.requires.good c.requires.fits c.requires.waits c.loop-input-test.true c.loop-input.invariant _ (ch c.loop-input.input) refl c.transfer_one.ensures

@@ -13,6 +13,6 @@ returns c =
     let m = view c.args.self.now.memory in
     let l = cells m c.args.input in
     let n = cells-length m c.args.input c.requires.good.sound (omega (arith, c.requires.good.rows, c.requires.good.few, c.requires.there)) in
-    ap (λ (z : ℕ). ltb z c.len.result) c.first-for.ensures
+    ap (λ (z : ℕ). ltb z c.len.result) c.first_for.ensures
     ∙ (ap (λ (z : ℕ). ltb (position c.in-For.output l) z) (c.len.ensures ∙ sym n)
     ∙ (waits_test c.in-For.output l ∙ sym (ap (λ (x : Arrival). waits_in x l) c.in-For.is)))

@@ -31,6 +31,6 @@ returns c =
     let e : c.loop-input.input ≡ c.args.lines = omega (arith, c.loop-input-test.false) in
     sym (ap (λ (n : ℕ). one_output n (choice_of c.args.choice.now)) (sym e) ∙ c.loop-input.invariant.1)
 
-pub loop-input-preserved-in-default : goal.loop-input-preserved-in-default
-loop-input-preserved-in-default c =
-    seen_same c.loop-input.outputs c.loop-input.input (choice_of c.args.choice.now) c.in-default.is c.loop-input.invariant
+pub loop-input-preserved-in_default : goal.loop-input-preserved-in_default
+loop-input-preserved-in_default c =
+    seen_same c.loop-input.outputs c.loop-input.input (choice_of c.args.choice.now) c.in_default.is c.loop-input.invariant

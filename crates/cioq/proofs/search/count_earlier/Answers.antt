@@ -5,7 +5,7 @@ use Rattle.cioq.specs.Spells.{cells}
 use Rattle.cioq.proofs.Lists.{cells-length, cells_at}
 use Rattle.cioq.proofs.Seeking.{count_yes, count_no, count_end}
 use Rattle.cioq.proofs.search.count_earlier.Goals as goal
-use Rattle.cioq.proofs.search.count_earlier.Goals.{then-is-earlier, else-is-earlier}
+use Rattle.cioq.proofs.search.count_earlier.Goals.{then-is_earlier, else-is_earlier}
 
 pub loop-k-preserved : goal.loop-k-preserved
 loop-k-preserved c =
@@ -15,12 +15,12 @@ loop-k-preserved c =
     let t = c.loop-k-test.true in
     let e = cells_at m c.args.row c.loop-k.k c.cell.result c.requires.sound c.requires.within (omega arith) ∙ sym c.cell.ensures in
     let i = c.loop-k.invariant.1 in
-    elim c.if-is-earlier.branch [
-      | then-is-earlier w ↦
-          let q = count_yes c.args.cell (cells m c.args.row) c.loop-k.k c.cell.result e (omega arith) (sym c.is-earlier.ensures ∙ w.if-is-earlier.true) in
+    elim c.if-is_earlier.branch [
+      | then-is_earlier w ↦
+          let q = count_yes c.args.cell (cells m c.args.row) c.loop-k.k c.cell.result e (omega arith) (sym c.is_earlier.ensures ∙ w.if-is_earlier.true) in
           (omega (arith, w.count-is), omega (arith, w.count-is))
-      | else-is-earlier w ↦
-          let q = count_no c.args.cell (cells m c.args.row) c.loop-k.k c.cell.result e (omega arith) (sym c.is-earlier.ensures ∙ w.if-is-earlier.false) in
+      | else-is_earlier w ↦
+          let q = count_no c.args.cell (cells m c.args.row) c.loop-k.k c.cell.result e (omega arith) (sym c.is_earlier.ensures ∙ w.if-is_earlier.false) in
           (omega (arith, w.count-is), omega (arith, w.count-is))
     ]
 

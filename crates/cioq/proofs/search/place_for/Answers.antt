@@ -23,8 +23,8 @@ cell-last-requires c =
     let n = cells-length (view c.args.memory.now) c.args.row c.requires.sound c.requires.within in
     (omega arith, (c.requires.sound, (c.requires.within, omega (arith, c.loop-k.invariant.0, c.loop-k-test.true))))
 
-pub returns-then-not-is-earlier : goal.returns-then-not-is-earlier
-returns-then-not-is-earlier c =
+pub returns-then-not-is_earlier : goal.returns-then-not-is_earlier
+returns-then-not-is_earlier c =
     let m = view c.args.memory.now in
     let l = cells m c.args.row in
     let n = cells-length m c.args.row c.requires.sound c.requires.within in
@@ -32,7 +32,7 @@ returns-then-not-is-earlier c =
     let t = c.loop-k-test.true in
     let e : get_or l (c.loop-k.k - 1) c.cell-last.result ≡ c.cell-last.result = cells_at m c.args.row (c.loop-k.k - 1) c.cell-last.result c.requires.sound c.requires.within (omega arith) ∙ sym c.cell-last.ensures in
     place_stop c.args.cell l c.loop-k.k i c.loop-k.invariant.1
-    (suffix_len-take_no (earlier c.args.cell) l c.loop-k.k c.cell-last.result t i (ap (λ (d : Cell). earlier c.args.cell d) e ∙ (sym c.is-earlier.ensures ∙ c.if-not-is-earlier.true)))
+    (suffix_len-take_no (earlier c.args.cell) l c.loop-k.k c.cell-last.result t i (ap (λ (d : Cell). earlier c.args.cell d) e ∙ (sym c.is_earlier.ensures ∙ c.if-not-is_earlier.true)))
 
 pub loop-k-preserved : goal.loop-k-preserved
 loop-k-preserved c =
@@ -42,7 +42,7 @@ loop-k-preserved c =
     let i = c.loop-k.invariant.0 in
     let t = c.loop-k-test.true in
     let e : get_or l (c.loop-k.k - 1) c.cell-last.result ≡ c.cell-last.result = cells_at m c.args.row (c.loop-k.k - 1) c.cell-last.result c.requires.sound c.requires.within (omega arith) ∙ sym c.cell-last.ensures in
-    let y = suffix_len-take_yes (earlier c.args.cell) l c.loop-k.k c.cell-last.result t i (ap (λ (d : Cell). earlier c.args.cell d) e ∙ (sym c.is-earlier.ensures ∙ c.if-not-is-earlier.false)) in
+    let y = suffix_len-take_yes (earlier c.args.cell) l c.loop-k.k c.cell-last.result t i (ap (λ (d : Cell). earlier c.args.cell d) e ∙ (sym c.is_earlier.ensures ∙ c.if-not-is_earlier.false)) in
     (omega arith, omega (arith, c.loop-k.invariant.1, y))
 
 pub returns : goal.returns

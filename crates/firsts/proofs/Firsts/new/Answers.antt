@@ -2,4 +2,4 @@ use Rattle.firsts.proofs.Exact.{none_is}
 use Rattle.firsts.proofs.Firsts.new.Goals as goal
 
 pub returns : goal.returns
-returns c = none_is c.zeros-u32.result c.zeros-u16.result c.zeros-u32.ensures c.zeros-u16.ensures
+returns c = none_is c.zeros_u32.result c.zeros_u16.result c.zeros_u32.ensures c.zeros_u16.ensures

@@ -19,14 +19,14 @@ pub returns-in_default : goal.returns-in_default
 unfolding digit_value
 returns-in_default c = record { value = grind (arith, nat_tests); bound = tt }
 
-pub returns-in_default·2 : goal.returns-in_default·2
+pub returns-in_default-2 : goal.returns-in_default-2
 unfolding digit_value
-returns-in_default·2 c = record { value = grind (arith, nat_tests); bound = tt }
+returns-in_default-2 c = record { value = grind (arith, nat_tests); bound = tt }
 
-pub returns-in_default·3 : goal.returns-in_default·3
+pub returns-in_default-3 : goal.returns-in_default-3
 unfolding digit_value
-returns-in_default·3 c = record { value = grind (arith, nat_tests); bound = tt }
+returns-in_default-3 c = record { value = grind (arith, nat_tests); bound = tt }
 
-pub returns-in_default·4 : goal.returns-in_default·4
+pub returns-in_default-4 : goal.returns-in_default-4
 unfolding digit_value
-returns-in_default·4 c = record { value = grind (arith, nat_tests); bound = tt }
+returns-in_default-4 c = record { value = grind (arith, nat_tests); bound = tt }

@@ -15,9 +15,9 @@ loop-input-init c =
       (refl, λ i h. absurd (omega arith)),
     )
 
-pub returns-in-default : goal.returns-in-default
-returns-in-default c =
-    absurd (line_there 64 c.args.self.now.lines c.loop-input.input c.loop-input.rest.now (lines_of c.args.self.now.lines c.args.bytes.now) c.loop-input.invariant.1 c.loop-input-test.true c.in-default.ensures)
+pub returns-in_default : goal.returns-in_default
+returns-in_default c =
+    absurd (line_there 64 c.args.self.now.lines c.loop-input.input c.loop-input.rest.now (lines_of c.args.self.now.lines c.args.bytes.now) c.loop-input.invariant.1 c.loop-input-test.true c.in_default.ensures)
 
 pub admit-requires : goal.admit-requires
 admit-requires c =
@@ -33,7 +33,7 @@ pub loop-input-preserved : goal.loop-input-preserved
 loop-input-preserved c =
     let l = line_at 64 c.args.self.now.lines c.loop-input.input c.loop-input.rest.now (lines_of c.args.self.now.lines c.args.bytes.now) c.loop-input.invariant.1 c.loop-input-test.true (record { arrival = c.in-Some.entry.arrival; body = c.in-Some.entry.body.now }) c.in-Some.entry.rest.now no_line c.in-Some.ensures in
     let r = away_here (state c.args.self.now) (lines_of c.args.self.now.lines c.args.bytes.now) c.loop-input.input (state c.loop-input.self) c.loop-input.invariant.0 c.in-Some.entry.arrival c.in-Some.entry.body.now c.admit.result l.0 c.admit.ensures.away in
-    let f = flags_more (away c.args.self.now.now (lines_of c.args.self.now.lines c.args.bytes.now) (state c.args.self.now).mem) c.loop-input.turned-away c.loop-input.input c.admit.result c.loop-input.invariant.2.0 (omega (arith, c.requires.good.few, c.loop-input-test.true)) r c.loop-input.invariant.2.1 in (
+    let f = flags_more (away c.args.self.now.now (lines_of c.args.self.now.lines c.args.bytes.now) (state c.args.self.now).mem) c.loop-input.turned_away c.loop-input.input c.admit.result c.loop-input.invariant.2.0 (omega (arith, c.requires.good.few, c.loop-input-test.true)) r c.loop-input.invariant.2.1 in (
       admitted-more (state c.args.self.now) (lines_of c.args.self.now.lines c.args.bytes.now) c.loop-input.input (state c.loop-input.self) c.loop-input.invariant.0 c.in-Some.entry.arrival c.in-Some.entry.body.now (state c.admit.new.self) l.0 c.admit.ensures.after,
       l.1,
       (f.0, f.1),

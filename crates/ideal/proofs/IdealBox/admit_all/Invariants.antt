@@ -8,5 +8,5 @@ abbrev pub invariant-loop-input : goal.invariant-loop-input
 invariant-loop-input l =
     (state l.self ≡ admitted l.input (lines_of l.initial.self.lines l.initial.rest) (state l.initial.self)) ×
     (read_lines 64 (l.initial.self.lines - l.input) l.rest ≡ Some (drop l.input (lines_of l.initial.self.lines l.initial.rest))) ×
-    ((length l.turned-away ≡ 32) ×
-    ((i : ℕ) → i < l.input → get_or l.turned-away i false ≡ away l.initial.self.now (lines_of l.initial.self.lines l.initial.rest) (state l.initial.self).mem i))
+    ((length l.turned_away ≡ 32) ×
+    ((i : ℕ) → i < l.input → get_or l.turned_away i false ≡ away l.initial.self.now (lines_of l.initial.self.lines l.initial.rest) (state l.initial.self).mem i))

@@ -13,7 +13,7 @@ returns c =
     let d = departs-first (state c.args.self.now) c.requires.good c.args.output c.requires.within.0 some c.cell-cell.result c.body.result.now c.cell-cell.ensures c.body.ensures in
     record {
       after = departed-first (state c.args.self.now) c.requires.good c.args.output c.requires.within.0 some (view c.remove.new.self) c.remove.ensures;
-      bytes = c.write-departure-next.ensures.bytes ∙ ap (λ (x : Departure). overwrite c.args.at (leaving x) c.args.out.now) (sym d);
-      next = omega (arith, c.write-departure-next.ensures.next, departure-length c.cell-cell.result c.body.result.now c.write-departure-next.ensures.carried, ap (λ (x : Departure). length (leaving x)) d);
-      short = omega (arith, c.write-departure-next.ensures.next);
+      bytes = c.write_departure-next.ensures.bytes ∙ ap (λ (x : Departure). overwrite c.args.at (leaving x) c.args.out.now) (sym d);
+      next = omega (arith, c.write_departure-next.ensures.next, departure-length c.cell-cell.result c.body.result.now c.write_departure-next.ensures.carried, ap (λ (x : Departure). length (leaving x)) d);
+      short = omega (arith, c.write_departure-next.ensures.next);
     }
