@@ -65,7 +65,7 @@ fn take_slot(ideal: &mut IdealBox<'_>, lines: &[u8], out: &mut [u8; 2241]) -> us
 
 // What the box is ready for.
 fn ready_for(ideal: &IdealBox<'_>) -> Step
-    ensures { result ≡ step_of (state ideal.now).lines }
+    ensures { result ≡ step_of (state ideal.entry.now).lines }
 {
     if ideal.lines() == 0 {
         Step::Unset
