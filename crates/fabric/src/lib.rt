@@ -46,7 +46,7 @@ pub struct Fabric<'a> {
 fn scan(real: &RealBox<'_>, firsts: &mut Firsts, input: u8)
     requires good { Good (state real.now) × Aimed (state real.now) }
     requires there { input < (state real.now).lines }
-    ensures { TableOf firsts.old (up_to (state real.now) input 0) → TableOf firsts.new (up_to (state real.now) (input + 1) 0) }
+    ensures { TableOf firsts.old (up_to (state real.entry.now) input 0) → TableOf firsts.new (up_to (state real.entry.now) (input + 1) 0) }
 {
     for k in 0..real.waiting(input) {
         firsts.note(input, k as u16, real.waiting_cell(input, k));
@@ -56,7 +56,7 @@ fn scan(real: &RealBox<'_>, firsts: &mut Firsts, input: u8)
 // Makes the table of the first cell of each pair.
 fn tabulate(real: &RealBox<'_>, firsts: &mut Firsts)
     requires { Good (state real.now) × Aimed (state real.now) }
-    ensures { TableOf firsts.new (up_to (state real.now) (state real.now).lines 0) }
+    ensures { TableOf firsts.new (up_to (state real.entry.now) (state real.entry.now).lines 0) }
 {
     firsts.clear();
     for input in 0..real.lines() {
@@ -68,7 +68,7 @@ fn tabulate(real: &RealBox<'_>, firsts: &mut Firsts)
 fn choose(real: &RealBox<'_>, firsts: &mut Firsts) -> Found
     requires good { Good (state real.now) × Aimed (state real.now) }
     requires tied { (b : Box) × Tied (state real.now) b }
-    ensures { (b : Box) → Tied (state real.now) b → Finds result (state real.now).lines b }
+    ensures { (b : Box) → Tied (state real.entry.now) b → Finds result (state real.entry.now).lines b }
 {
     tabulate(real, firsts);
     find(firsts, real.lines())

@@ -13,9 +13,9 @@ loop-input-init c =
       ap (λ k. read_lines 0 k c.args.bytes.now) z ∙ choice_read c.args.lines c.args.bytes.now c.requires.read,
     )
 
-pub returns-in-default : goal.returns-in-default
-returns-in-default c =
-    absurd (line_there 0 c.args.lines c.loop-input.input c.loop-input.rest.now (choice_lines c.args.lines c.args.bytes.now) c.loop-input.invariant.1 c.loop-input-test.true c.in-default.ensures)
+pub returns-in_default : goal.returns-in_default
+returns-in_default c =
+    absurd (line_there 0 c.args.lines c.loop-input.input c.loop-input.rest.now (choice_lines c.args.lines c.args.bytes.now) c.loop-input.invariant.1 c.loop-input-test.true c.in_default.ensures)
 
 pub loop-input-preserved : goal.loop-input-preserved
 loop-input-preserved c =

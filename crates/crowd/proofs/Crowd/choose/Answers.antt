@@ -14,7 +14,7 @@ test-requires c =
     let s = state c.args.self.now in
     let bytes = c.args.lines.now in
     let ok = subst (λ (n : ℕ). Ok tt ≡ verdict (judge n 0 false bytes)) c.lines.ensures (one_good c.in-Ok.field-0 (verdict (judge c.lines.result 0 false bytes)) c.in-Ok.ensures) in
-    let named = subst (λ (n : ℕ). choice_of c.read-choice-choice.result ≡ arrivals_of (choice_lines n bytes)) c.lines-in-Ok.ensures c.read-choice-choice.ensures in
+    let named = subst (λ (n : ℕ). choice_of c.read_choice-choice.result ≡ arrivals_of (choice_lines n bytes)) c.lines-in-Ok.ensures c.read_choice-choice.ensures in
     record {
       good = shows_good s c.requires.0 c.requires.1;
       fits = subst (λ (ch : Arrivals). Fits s.real.lines ch) (sym named) (choice_fits s.real.lines bytes ok);

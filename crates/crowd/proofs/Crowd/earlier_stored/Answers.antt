@@ -6,4 +6,4 @@ use Rattle.crowd.proofs.Shown.{shown_store}
 use Rattle.crowd.proofs.Crowd.earlier_stored.Goals as goal
 
 pub returns : goal.returns
-returns c = λ st h. c.earlier-stored.ensures ∙ ap (λ (l : List Cell). count_earlier c.args.cell l) (shown_store (state c.args.self.now) st h c.args.cell.output c.requires.there)
+returns c = λ st h. c.earlier_stored.ensures ∙ ap (λ (l : List Cell). count_earlier c.args.cell l) (shown_store (state c.args.self.now) st h c.args.cell.output c.requires.there)

@@ -6,4 +6,4 @@ use Rattle.crowd.proofs.Shown.{shown_list}
 use Rattle.crowd.proofs.Crowd.picked.Goals as goal
 
 pub returns : goal.returns
-returns c = λ st h. c.named-at.ensures ∙ ap (λ (l : List Cell). named c.args.arrival l) (shown_list (state c.args.self.now) st h c.args.input c.requires.there)
+returns c = λ st h. c.named_at.ensures ∙ ap (λ (l : List Cell). named c.args.arrival l) (shown_list (state c.args.self.now) st h c.args.input c.requires.there)

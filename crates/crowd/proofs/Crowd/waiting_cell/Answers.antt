@@ -6,8 +6,8 @@ use Rattle.crowd.proofs.Shown.{shown_list, shown_aimed}
 use Rattle.crowd.proofs.Within.{shows_good}
 use Rattle.crowd.proofs.Crowd.waiting_cell.Goals as goal
 
-pub waiting-cell-requires : goal.waiting-cell-requires
-waiting-cell-requires c =
+pub waiting_cell-requires : goal.waiting_cell-requires
+waiting_cell-requires c =
     let s = state c.args.self.now in
     record {
       good = shows_good s c.requires.shown.0 c.requires.shown.1;
@@ -20,6 +20,6 @@ returns c =
     let s = state c.args.self.now in
     let w = subst (λ (l : List Cell). c.args.k < length l) (sym (shown_list s c.requires.shown.0 c.requires.shown.1 c.args.input c.requires.there)) (c.requires.within c.requires.shown.0 c.requires.shown.1) in
     record {
-      cell = λ st h. c.waiting-cell.ensures ∙ ap (λ (l : List Cell). get_or l c.args.k c.waiting-cell.result) (shown_list s st h c.args.input c.requires.there);
-      aimed = shown_aimed s c.requires.shown.0 c.requires.shown.1 c.args.input c.args.k c.waiting-cell.result c.requires.there w c.waiting-cell.ensures;
+      cell = λ st h. c.waiting_cell.ensures ∙ ap (λ (l : List Cell). get_or l c.args.k c.waiting_cell.result) (shown_list s st h c.args.input c.requires.there);
+      aimed = shown_aimed s c.requires.shown.0 c.requires.shown.1 c.args.input c.args.k c.waiting_cell.result c.requires.there w c.waiting_cell.ensures;
     }

@@ -12,19 +12,19 @@ loop-output-preserved c =
     let k = c.loop-output.output in
     let x = c.args.real.now in
     let y = c.args.ideal.now in
-    let p : c.next-part-one.result.bytes.now ≡ part_of k x = c.next-part-one.ensures.part ∙ ap (λ (l : List ℕ). part l) c.loop-output.invariant.0 in
-    let q : c.next-part-other.result.bytes.now ≡ part_of k y = c.next-part-other.ensures.part ∙ ap (λ (l : List ℕ). part l) c.loop-output.invariant.1 in
+    let p : c.next_part-one.result.bytes.now ≡ part_of k x = c.next_part-one.ensures.part ∙ ap (λ (l : List ℕ). part l) c.loop-output.invariant.0 in
+    let q : c.next_part-other.result.bytes.now ≡ part_of k y = c.next_part-other.ensures.part ∙ ap (λ (l : List ℕ). part l) c.loop-output.invariant.1 in
     let few : k < 32 = omega (arith, c.requires, c.loop-output-test.true) in (
-      c.next-part-one.ensures.rest ∙ behind_more k c.loop-output.a.now x c.loop-output.invariant.0,
-      c.next-part-other.ensures.rest ∙ behind_more k c.loop-output.b.now y c.loop-output.invariant.1,
-      told_more c.loop-output.found k x y c.same-bytes.result few c.loop-output.invariant.2 (λ h. sym p ∙ (c.same-bytes.ensures.0 h ∙ q)) (λ e. c.same-bytes.ensures.1 (p ∙ (e ∙ sym q))),
+      c.next_part-one.ensures.rest ∙ behind_more k c.loop-output.a.now x c.loop-output.invariant.0,
+      c.next_part-other.ensures.rest ∙ behind_more k c.loop-output.b.now y c.loop-output.invariant.1,
+      told_more c.loop-output.found k x y c.same_bytes.result few c.loop-output.invariant.2 (λ h. sym p ∙ (c.same_bytes.ensures.0 h ∙ q)) (λ e. c.same_bytes.ensures.1 (p ∙ (e ∙ sym q))),
     )
 
 pub returns : goal.returns
 returns c =
     let t = c.loop-output.invariant.2 in
     record {
-      where-they-differ = λ o h e. t.1 o (omega arith) e;
+      where_they_differ = λ o h e. t.1 o (omega arith) e;
       alike = λ e o h. t.2 o (omega arith) (ap (λ (l : List ℕ). part_of o l) e);
-      where-they-agree = λ o h e. t.2 o (omega arith) e;
+      where_they_agree = λ o h e. t.2 o (omega arith) e;
     }

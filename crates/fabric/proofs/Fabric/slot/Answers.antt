@@ -13,54 +13,54 @@ use Rattle.fabric.proofs.Fabric.slot.Goals as goal
 
 pub choose-first-requires : goal.choose-first-requires
 choose-first-requires c =
-    let g = (first_stage (state c.args.self.now.real) c.requires.runs.0 c.args.lines.now c.requires.runs.1 c.requires.read (state c.arrive-turned-away.new.self) c.arrive-turned-away.ensures.after) in
-    record { good = (g.good, stage_aimed _ _ _ _ (state c.arrive-turned-away.new.self) (one (state c.args.self.now.real) c.requires.runs.0 c.args.lines.now c.requires.runs.1 c.requires.read) g); tied = (one (state c.args.self.now.real) c.requires.runs.0 c.args.lines.now c.requires.runs.1 c.requires.read, stage_tied _ _ _ _ (state c.arrive-turned-away.new.self) (one (state c.args.self.now.real) c.requires.runs.0 c.args.lines.now c.requires.runs.1 c.requires.read) g) }
+    let g = (first_stage (state c.args.self.now.real) c.requires.runs.0 c.args.lines.now c.requires.runs.1 c.requires.read (state c.arrive-turned_away.new.self) c.arrive-turned_away.ensures.after) in
+    record { good = (g.good, stage_aimed _ _ _ _ (state c.arrive-turned_away.new.self) (one (state c.args.self.now.real) c.requires.runs.0 c.args.lines.now c.requires.runs.1 c.requires.read) g); tied = (one (state c.args.self.now.real) c.requires.runs.0 c.args.lines.now c.requires.runs.1 c.requires.read, stage_tied _ _ _ _ (state c.arrive-turned_away.new.self) (one (state c.args.self.now.real) c.requires.runs.0 c.args.lines.now c.requires.runs.1 c.requires.read) g) }
 
 pub transfer-requires : goal.transfer-requires
 transfer-requires c =
-    let g = (first_stage (state c.args.self.now.real) c.requires.runs.0 c.args.lines.now c.requires.runs.1 c.requires.read (state c.arrive-turned-away.new.self) c.arrive-turned-away.ensures.after) in
-    let f = (c.choose-first.ensures (one (state c.args.self.now.real) c.requires.runs.0 c.args.lines.now c.requires.runs.1 c.requires.read) (stage_tied _ _ _ _ (state c.arrive-turned-away.new.self) (one (state c.args.self.now.real) c.requires.runs.0 c.args.lines.now c.requires.runs.1 c.requires.read) (first_stage (state c.args.self.now.real) c.requires.runs.0 c.args.lines.now c.requires.runs.1 c.requires.read (state c.arrive-turned-away.new.self) c.arrive-turned-away.ensures.after))) in
-    record { good = g.good; fits = stage_fits _ _ _ _ (state c.arrive-turned-away.new.self) (one (state c.args.self.now.real) c.requires.runs.0 c.args.lines.now c.requires.runs.1 c.requires.read) g c.choose-first.result f; waits = stage_waits _ _ _ _ (state c.arrive-turned-away.new.self) (one (state c.args.self.now.real) c.requires.runs.0 c.args.lines.now c.requires.runs.1 c.requires.read) g c.choose-first.result f }
+    let g = (first_stage (state c.args.self.now.real) c.requires.runs.0 c.args.lines.now c.requires.runs.1 c.requires.read (state c.arrive-turned_away.new.self) c.arrive-turned_away.ensures.after) in
+    let f = (c.choose-first.ensures (one (state c.args.self.now.real) c.requires.runs.0 c.args.lines.now c.requires.runs.1 c.requires.read) (stage_tied _ _ _ _ (state c.arrive-turned_away.new.self) (one (state c.args.self.now.real) c.requires.runs.0 c.args.lines.now c.requires.runs.1 c.requires.read) (first_stage (state c.args.self.now.real) c.requires.runs.0 c.args.lines.now c.requires.runs.1 c.requires.read (state c.arrive-turned_away.new.self) c.arrive-turned_away.ensures.after))) in
+    record { good = g.good; fits = stage_fits _ _ _ _ (state c.arrive-turned_away.new.self) (one (state c.args.self.now.real) c.requires.runs.0 c.args.lines.now c.requires.runs.1 c.requires.read) g c.choose-first.result f; waits = stage_waits _ _ _ _ (state c.arrive-turned_away.new.self) (one (state c.args.self.now.real) c.requires.runs.0 c.args.lines.now c.requires.runs.1 c.requires.read) g c.choose-first.result f }
 
 pub depart-left-requires : goal.depart-left-requires
 depart-left-requires c =
-    let g = (second_stage (state c.args.self.now.real) c.requires.runs.0 c.args.lines.now c.requires.runs.1 c.requires.read (state c.arrive-turned-away.new.self) (state c.transfer.new.self) (depart_all (state c.transfer.new.self).lines (state c.transfer.new.self)) (state c.transfer.new.self) c.choose-first.result c.choose-first.result c.arrive-turned-away.ensures.after c.transfer.ensures (c.choose-first.ensures (one (state c.args.self.now.real) c.requires.runs.0 c.args.lines.now c.requires.runs.1 c.requires.read) (stage_tied _ _ _ _ (state c.arrive-turned-away.new.self) (one (state c.args.self.now.real) c.requires.runs.0 c.args.lines.now c.requires.runs.1 c.requires.read) (first_stage (state c.args.self.now.real) c.requires.runs.0 c.args.lines.now c.requires.runs.1 c.requires.read (state c.arrive-turned-away.new.self) c.arrive-turned-away.ensures.after))) refl) in
+    let g = (second_stage (state c.args.self.now.real) c.requires.runs.0 c.args.lines.now c.requires.runs.1 c.requires.read (state c.arrive-turned_away.new.self) (state c.transfer.new.self) (depart_all (state c.transfer.new.self).lines (state c.transfer.new.self)) (state c.transfer.new.self) c.choose-first.result c.choose-first.result c.arrive-turned_away.ensures.after c.transfer.ensures (c.choose-first.ensures (one (state c.args.self.now.real) c.requires.runs.0 c.args.lines.now c.requires.runs.1 c.requires.read) (stage_tied _ _ _ _ (state c.arrive-turned_away.new.self) (one (state c.args.self.now.real) c.requires.runs.0 c.args.lines.now c.requires.runs.1 c.requires.read) (first_stage (state c.args.self.now.real) c.requires.runs.0 c.args.lines.now c.requires.runs.1 c.requires.read (state c.arrive-turned_away.new.self) c.arrive-turned_away.ensures.after))) refl) in
     let few = c.requires.runs.1.good.few in
-    record { good = g.good; counted = stage_counted _ _ _ _ (state c.transfer.new.self) _ g; room = omega (arith, g.lines, c.write-byte-begun.ensures.next) }
+    record { good = g.good; counted = stage_counted _ _ _ _ (state c.transfer.new.self) _ g; room = omega (arith, g.lines, c.write_byte-begun.ensures.next) }
 
 pub choose-second-requires : goal.choose-second-requires
 choose-second-requires c =
-    let g = (third_stage (state c.args.self.now.real) c.requires.runs.0 c.args.lines.now c.requires.runs.1 c.requires.read (state c.arrive-turned-away.new.self) (state c.transfer.new.self) (state c.depart-left.new.self) (state c.depart-left.new.self) c.choose-first.result c.choose-first.result c.arrive-turned-away.ensures.after c.transfer.ensures (c.choose-first.ensures (one (state c.args.self.now.real) c.requires.runs.0 c.args.lines.now c.requires.runs.1 c.requires.read) (stage_tied _ _ _ _ (state c.arrive-turned-away.new.self) (one (state c.args.self.now.real) c.requires.runs.0 c.args.lines.now c.requires.runs.1 c.requires.read) (first_stage (state c.args.self.now.real) c.requires.runs.0 c.args.lines.now c.requires.runs.1 c.requires.read (state c.arrive-turned-away.new.self) c.arrive-turned-away.ensures.after))) c.depart-left.ensures.after) in
+    let g = (third_stage (state c.args.self.now.real) c.requires.runs.0 c.args.lines.now c.requires.runs.1 c.requires.read (state c.arrive-turned_away.new.self) (state c.transfer.new.self) (state c.depart-left.new.self) (state c.depart-left.new.self) c.choose-first.result c.choose-first.result c.arrive-turned_away.ensures.after c.transfer.ensures (c.choose-first.ensures (one (state c.args.self.now.real) c.requires.runs.0 c.args.lines.now c.requires.runs.1 c.requires.read) (stage_tied _ _ _ _ (state c.arrive-turned_away.new.self) (one (state c.args.self.now.real) c.requires.runs.0 c.args.lines.now c.requires.runs.1 c.requires.read) (first_stage (state c.args.self.now.real) c.requires.runs.0 c.args.lines.now c.requires.runs.1 c.requires.read (state c.arrive-turned_away.new.self) c.arrive-turned_away.ensures.after))) c.depart-left.ensures.after) in
     record { good = (g.good, stage_aimed _ _ _ _ (state c.depart-left.new.self) (three (state c.args.self.now.real) c.requires.runs.0 c.args.lines.now c.requires.runs.1 c.requires.read) g); tied = (three (state c.args.self.now.real) c.requires.runs.0 c.args.lines.now c.requires.runs.1 c.requires.read, stage_tied _ _ _ _ (state c.depart-left.new.self) (three (state c.args.self.now.real) c.requires.runs.0 c.args.lines.now c.requires.runs.1 c.requires.read) g) }
 
 pub transfer-requires-2 : goal.transfer-requires-2
 transfer-requires-2 c =
-    let g = (third_stage (state c.args.self.now.real) c.requires.runs.0 c.args.lines.now c.requires.runs.1 c.requires.read (state c.arrive-turned-away.new.self) (state c.transfer.new.self) (state c.depart-left.new.self) (state c.depart-left.new.self) c.choose-first.result c.choose-first.result c.arrive-turned-away.ensures.after c.transfer.ensures (c.choose-first.ensures (one (state c.args.self.now.real) c.requires.runs.0 c.args.lines.now c.requires.runs.1 c.requires.read) (stage_tied _ _ _ _ (state c.arrive-turned-away.new.self) (one (state c.args.self.now.real) c.requires.runs.0 c.args.lines.now c.requires.runs.1 c.requires.read) (first_stage (state c.args.self.now.real) c.requires.runs.0 c.args.lines.now c.requires.runs.1 c.requires.read (state c.arrive-turned-away.new.self) c.arrive-turned-away.ensures.after))) c.depart-left.ensures.after) in
-    let f = (c.choose-second.ensures (three (state c.args.self.now.real) c.requires.runs.0 c.args.lines.now c.requires.runs.1 c.requires.read) (stage_tied _ _ _ _ (state c.depart-left.new.self) (three (state c.args.self.now.real) c.requires.runs.0 c.args.lines.now c.requires.runs.1 c.requires.read) (third_stage (state c.args.self.now.real) c.requires.runs.0 c.args.lines.now c.requires.runs.1 c.requires.read (state c.arrive-turned-away.new.self) (state c.transfer.new.self) (state c.depart-left.new.self) (state c.depart-left.new.self) c.choose-first.result c.choose-first.result c.arrive-turned-away.ensures.after c.transfer.ensures (c.choose-first.ensures (one (state c.args.self.now.real) c.requires.runs.0 c.args.lines.now c.requires.runs.1 c.requires.read) (stage_tied _ _ _ _ (state c.arrive-turned-away.new.self) (one (state c.args.self.now.real) c.requires.runs.0 c.args.lines.now c.requires.runs.1 c.requires.read) (first_stage (state c.args.self.now.real) c.requires.runs.0 c.args.lines.now c.requires.runs.1 c.requires.read (state c.arrive-turned-away.new.self) c.arrive-turned-away.ensures.after))) c.depart-left.ensures.after))) in
+    let g = (third_stage (state c.args.self.now.real) c.requires.runs.0 c.args.lines.now c.requires.runs.1 c.requires.read (state c.arrive-turned_away.new.self) (state c.transfer.new.self) (state c.depart-left.new.self) (state c.depart-left.new.self) c.choose-first.result c.choose-first.result c.arrive-turned_away.ensures.after c.transfer.ensures (c.choose-first.ensures (one (state c.args.self.now.real) c.requires.runs.0 c.args.lines.now c.requires.runs.1 c.requires.read) (stage_tied _ _ _ _ (state c.arrive-turned_away.new.self) (one (state c.args.self.now.real) c.requires.runs.0 c.args.lines.now c.requires.runs.1 c.requires.read) (first_stage (state c.args.self.now.real) c.requires.runs.0 c.args.lines.now c.requires.runs.1 c.requires.read (state c.arrive-turned_away.new.self) c.arrive-turned_away.ensures.after))) c.depart-left.ensures.after) in
+    let f = (c.choose-second.ensures (three (state c.args.self.now.real) c.requires.runs.0 c.args.lines.now c.requires.runs.1 c.requires.read) (stage_tied _ _ _ _ (state c.depart-left.new.self) (three (state c.args.self.now.real) c.requires.runs.0 c.args.lines.now c.requires.runs.1 c.requires.read) (third_stage (state c.args.self.now.real) c.requires.runs.0 c.args.lines.now c.requires.runs.1 c.requires.read (state c.arrive-turned_away.new.self) (state c.transfer.new.self) (state c.depart-left.new.self) (state c.depart-left.new.self) c.choose-first.result c.choose-first.result c.arrive-turned_away.ensures.after c.transfer.ensures (c.choose-first.ensures (one (state c.args.self.now.real) c.requires.runs.0 c.args.lines.now c.requires.runs.1 c.requires.read) (stage_tied _ _ _ _ (state c.arrive-turned_away.new.self) (one (state c.args.self.now.real) c.requires.runs.0 c.args.lines.now c.requires.runs.1 c.requires.read) (first_stage (state c.args.self.now.real) c.requires.runs.0 c.args.lines.now c.requires.runs.1 c.requires.read (state c.arrive-turned_away.new.self) c.arrive-turned_away.ensures.after))) c.depart-left.ensures.after))) in
     record { good = g.good; fits = stage_fits _ _ _ _ (state c.depart-left.new.self) (three (state c.args.self.now.real) c.requires.runs.0 c.args.lines.now c.requires.runs.1 c.requires.read) g c.choose-second.result f; waits = stage_waits _ _ _ _ (state c.depart-left.new.self) (three (state c.args.self.now.real) c.requires.runs.0 c.args.lines.now c.requires.runs.1 c.requires.read) g c.choose-second.result f }
 
 pub pass-requires : goal.pass-requires
 pass-requires c =
-    let g = fourth_stage (state c.args.self.now.real) c.requires.runs.0 c.args.lines.now c.requires.runs.1 c.requires.read (state c.arrive-turned-away.new.self) (state c.transfer.new.self) (state c.depart-left.new.self) (state c.transfer-2.new.self) c.choose-first.result c.choose-second.result c.arrive-turned-away.ensures.after c.transfer.ensures (c.choose-first.ensures (one (state c.args.self.now.real) c.requires.runs.0 c.args.lines.now c.requires.runs.1 c.requires.read) (stage_tied _ _ _ _ (state c.arrive-turned-away.new.self) (one (state c.args.self.now.real) c.requires.runs.0 c.args.lines.now c.requires.runs.1 c.requires.read) (first_stage (state c.args.self.now.real) c.requires.runs.0 c.args.lines.now c.requires.runs.1 c.requires.read (state c.arrive-turned-away.new.self) c.arrive-turned-away.ensures.after))) c.depart-left.ensures.after c.transfer-2.ensures (c.choose-second.ensures (three (state c.args.self.now.real) c.requires.runs.0 c.args.lines.now c.requires.runs.1 c.requires.read) (stage_tied _ _ _ _ (state c.depart-left.new.self) (three (state c.args.self.now.real) c.requires.runs.0 c.args.lines.now c.requires.runs.1 c.requires.read) (third_stage (state c.args.self.now.real) c.requires.runs.0 c.args.lines.now c.requires.runs.1 c.requires.read (state c.arrive-turned-away.new.self) (state c.transfer.new.self) (state c.depart-left.new.self) (state c.depart-left.new.self) c.choose-first.result c.choose-first.result c.arrive-turned-away.ensures.after c.transfer.ensures (c.choose-first.ensures (one (state c.args.self.now.real) c.requires.runs.0 c.args.lines.now c.requires.runs.1 c.requires.read) (stage_tied _ _ _ _ (state c.arrive-turned-away.new.self) (one (state c.args.self.now.real) c.requires.runs.0 c.args.lines.now c.requires.runs.1 c.requires.read) (first_stage (state c.args.self.now.real) c.requires.runs.0 c.args.lines.now c.requires.runs.1 c.requires.read (state c.arrive-turned-away.new.self) c.arrive-turned-away.ensures.after))) c.depart-left.ensures.after))) in
+    let g = fourth_stage (state c.args.self.now.real) c.requires.runs.0 c.args.lines.now c.requires.runs.1 c.requires.read (state c.arrive-turned_away.new.self) (state c.transfer.new.self) (state c.depart-left.new.self) (state c.transfer-2.new.self) c.choose-first.result c.choose-second.result c.arrive-turned_away.ensures.after c.transfer.ensures (c.choose-first.ensures (one (state c.args.self.now.real) c.requires.runs.0 c.args.lines.now c.requires.runs.1 c.requires.read) (stage_tied _ _ _ _ (state c.arrive-turned_away.new.self) (one (state c.args.self.now.real) c.requires.runs.0 c.args.lines.now c.requires.runs.1 c.requires.read) (first_stage (state c.args.self.now.real) c.requires.runs.0 c.args.lines.now c.requires.runs.1 c.requires.read (state c.arrive-turned_away.new.self) c.arrive-turned_away.ensures.after))) c.depart-left.ensures.after c.transfer-2.ensures (c.choose-second.ensures (three (state c.args.self.now.real) c.requires.runs.0 c.args.lines.now c.requires.runs.1 c.requires.read) (stage_tied _ _ _ _ (state c.depart-left.new.self) (three (state c.args.self.now.real) c.requires.runs.0 c.args.lines.now c.requires.runs.1 c.requires.read) (third_stage (state c.args.self.now.real) c.requires.runs.0 c.args.lines.now c.requires.runs.1 c.requires.read (state c.arrive-turned_away.new.self) (state c.transfer.new.self) (state c.depart-left.new.self) (state c.depart-left.new.self) c.choose-first.result c.choose-first.result c.arrive-turned_away.ensures.after c.transfer.ensures (c.choose-first.ensures (one (state c.args.self.now.real) c.requires.runs.0 c.args.lines.now c.requires.runs.1 c.requires.read) (stage_tied _ _ _ _ (state c.arrive-turned_away.new.self) (one (state c.args.self.now.real) c.requires.runs.0 c.args.lines.now c.requires.runs.1 c.requires.read) (first_stage (state c.args.self.now.real) c.requires.runs.0 c.args.lines.now c.requires.runs.1 c.requires.read (state c.arrive-turned_away.new.self) c.arrive-turned_away.ensures.after))) c.depart-left.ensures.after))) in
     omega (arith, g.slots_had, c.requires.early)
 
-pub write-flags-requires : goal.write-flags-requires
-write-flags-requires c =
-    let g = fourth_stage (state c.args.self.now.real) c.requires.runs.0 c.args.lines.now c.requires.runs.1 c.requires.read (state c.arrive-turned-away.new.self) (state c.transfer.new.self) (state c.depart-left.new.self) (state c.transfer-2.new.self) c.choose-first.result c.choose-second.result c.arrive-turned-away.ensures.after c.transfer.ensures (c.choose-first.ensures (one (state c.args.self.now.real) c.requires.runs.0 c.args.lines.now c.requires.runs.1 c.requires.read) (stage_tied _ _ _ _ (state c.arrive-turned-away.new.self) (one (state c.args.self.now.real) c.requires.runs.0 c.args.lines.now c.requires.runs.1 c.requires.read) (first_stage (state c.args.self.now.real) c.requires.runs.0 c.args.lines.now c.requires.runs.1 c.requires.read (state c.arrive-turned-away.new.self) c.arrive-turned-away.ensures.after))) c.depart-left.ensures.after c.transfer-2.ensures (c.choose-second.ensures (three (state c.args.self.now.real) c.requires.runs.0 c.args.lines.now c.requires.runs.1 c.requires.read) (stage_tied _ _ _ _ (state c.depart-left.new.self) (three (state c.args.self.now.real) c.requires.runs.0 c.args.lines.now c.requires.runs.1 c.requires.read) (third_stage (state c.args.self.now.real) c.requires.runs.0 c.args.lines.now c.requires.runs.1 c.requires.read (state c.arrive-turned-away.new.self) (state c.transfer.new.self) (state c.depart-left.new.self) (state c.depart-left.new.self) c.choose-first.result c.choose-first.result c.arrive-turned-away.ensures.after c.transfer.ensures (c.choose-first.ensures (one (state c.args.self.now.real) c.requires.runs.0 c.args.lines.now c.requires.runs.1 c.requires.read) (stage_tied _ _ _ _ (state c.arrive-turned-away.new.self) (one (state c.args.self.now.real) c.requires.runs.0 c.args.lines.now c.requires.runs.1 c.requires.read) (first_stage (state c.args.self.now.real) c.requires.runs.0 c.args.lines.now c.requires.runs.1 c.requires.read (state c.arrive-turned-away.new.self) c.arrive-turned-away.ensures.after))) c.depart-left.ensures.after))) in
+pub write_flags-requires : goal.write_flags-requires
+write_flags-requires c =
+    let g = fourth_stage (state c.args.self.now.real) c.requires.runs.0 c.args.lines.now c.requires.runs.1 c.requires.read (state c.arrive-turned_away.new.self) (state c.transfer.new.self) (state c.depart-left.new.self) (state c.transfer-2.new.self) c.choose-first.result c.choose-second.result c.arrive-turned_away.ensures.after c.transfer.ensures (c.choose-first.ensures (one (state c.args.self.now.real) c.requires.runs.0 c.args.lines.now c.requires.runs.1 c.requires.read) (stage_tied _ _ _ _ (state c.arrive-turned_away.new.self) (one (state c.args.self.now.real) c.requires.runs.0 c.args.lines.now c.requires.runs.1 c.requires.read) (first_stage (state c.args.self.now.real) c.requires.runs.0 c.args.lines.now c.requires.runs.1 c.requires.read (state c.arrive-turned_away.new.self) c.arrive-turned_away.ensures.after))) c.depart-left.ensures.after c.transfer-2.ensures (c.choose-second.ensures (three (state c.args.self.now.real) c.requires.runs.0 c.args.lines.now c.requires.runs.1 c.requires.read) (stage_tied _ _ _ _ (state c.depart-left.new.self) (three (state c.args.self.now.real) c.requires.runs.0 c.args.lines.now c.requires.runs.1 c.requires.read) (third_stage (state c.args.self.now.real) c.requires.runs.0 c.args.lines.now c.requires.runs.1 c.requires.read (state c.arrive-turned_away.new.self) (state c.transfer.new.self) (state c.depart-left.new.self) (state c.depart-left.new.self) c.choose-first.result c.choose-first.result c.arrive-turned_away.ensures.after c.transfer.ensures (c.choose-first.ensures (one (state c.args.self.now.real) c.requires.runs.0 c.args.lines.now c.requires.runs.1 c.requires.read) (stage_tied _ _ _ _ (state c.arrive-turned_away.new.self) (one (state c.args.self.now.real) c.requires.runs.0 c.args.lines.now c.requires.runs.1 c.requires.read) (first_stage (state c.args.self.now.real) c.requires.runs.0 c.args.lines.now c.requires.runs.1 c.requires.read (state c.arrive-turned_away.new.self) c.arrive-turned_away.ensures.after))) c.depart-left.ensures.after))) in
     let few = c.requires.runs.1.good.few in
     let p = ap (λ (z : State). z.lines) c.pass.ensures in
     let d = c.depart-left.ensures.short in
-    let t = ap (λ (z : State). z.lines) c.transfer.ensures ∙ transferred_lines (state c.arrive-turned-away.new.self).lines _ (state c.arrive-turned-away.new.self) in
-    let u = ap (λ (z : State). z.lines) c.arrive-turned-away.ensures.after ∙ all_lines _ _ (state c.args.self.now.real) in
-    (omega (arith, c.lines.ensures, g.lines), omega (arith, c.lines.ensures, g.lines, c.write-byte-begun.ensures.next))
+    let t = ap (λ (z : State). z.lines) c.transfer.ensures ∙ transferred_lines (state c.arrive-turned_away.new.self).lines _ (state c.arrive-turned_away.new.self) in
+    let u = ap (λ (z : State). z.lines) c.arrive-turned_away.ensures.after ∙ all_lines _ _ (state c.args.self.now.real) in
+    (omega (arith, c.lines.ensures, g.lines), omega (arith, c.lines.ensures, g.lines, c.write_byte-begun.ensures.next))
 
 pub returns : goal.returns
 returns c =
     λ past h.
-    let g = fourth_stage (state c.args.self.now.real) past c.args.lines.now h c.requires.read (state c.arrive-turned-away.new.self) (state c.transfer.new.self) (state c.depart-left.new.self) (state c.transfer-2.new.self) c.choose-first.result c.choose-second.result c.arrive-turned-away.ensures.after c.transfer.ensures (c.choose-first.ensures (one (state c.args.self.now.real) past c.args.lines.now h c.requires.read) (stage_tied _ _ _ _ (state c.arrive-turned-away.new.self) (one (state c.args.self.now.real) past c.args.lines.now h c.requires.read) (first_stage (state c.args.self.now.real) past c.args.lines.now h c.requires.read (state c.arrive-turned-away.new.self) c.arrive-turned-away.ensures.after))) c.depart-left.ensures.after c.transfer-2.ensures (c.choose-second.ensures (three (state c.args.self.now.real) past c.args.lines.now h c.requires.read) (stage_tied _ _ _ _ (state c.depart-left.new.self) (three (state c.args.self.now.real) past c.args.lines.now h c.requires.read) (third_stage (state c.args.self.now.real) past c.args.lines.now h c.requires.read (state c.arrive-turned-away.new.self) (state c.transfer.new.self) (state c.depart-left.new.self) (state c.depart-left.new.self) c.choose-first.result c.choose-first.result c.arrive-turned-away.ensures.after c.transfer.ensures (c.choose-first.ensures (one (state c.args.self.now.real) past c.args.lines.now h c.requires.read) (stage_tied _ _ _ _ (state c.arrive-turned-away.new.self) (one (state c.args.self.now.real) past c.args.lines.now h c.requires.read) (first_stage (state c.args.self.now.real) past c.args.lines.now h c.requires.read (state c.arrive-turned-away.new.self) c.arrive-turned-away.ensures.after))) c.depart-left.ensures.after))) in
+    let g = fourth_stage (state c.args.self.now.real) past c.args.lines.now h c.requires.read (state c.arrive-turned_away.new.self) (state c.transfer.new.self) (state c.depart-left.new.self) (state c.transfer-2.new.self) c.choose-first.result c.choose-second.result c.arrive-turned_away.ensures.after c.transfer.ensures (c.choose-first.ensures (one (state c.args.self.now.real) past c.args.lines.now h c.requires.read) (stage_tied _ _ _ _ (state c.arrive-turned_away.new.self) (one (state c.args.self.now.real) past c.args.lines.now h c.requires.read) (first_stage (state c.args.self.now.real) past c.args.lines.now h c.requires.read (state c.arrive-turned_away.new.self) c.arrive-turned_away.ensures.after))) c.depart-left.ensures.after c.transfer-2.ensures (c.choose-second.ensures (three (state c.args.self.now.real) past c.args.lines.now h c.requires.read) (stage_tied _ _ _ _ (state c.depart-left.new.self) (three (state c.args.self.now.real) past c.args.lines.now h c.requires.read) (third_stage (state c.args.self.now.real) past c.args.lines.now h c.requires.read (state c.arrive-turned_away.new.self) (state c.transfer.new.self) (state c.depart-left.new.self) (state c.depart-left.new.self) c.choose-first.result c.choose-first.result c.arrive-turned_away.ensures.after c.transfer.ensures (c.choose-first.ensures (one (state c.args.self.now.real) past c.args.lines.now h c.requires.read) (stage_tied _ _ _ _ (state c.arrive-turned_away.new.self) (one (state c.args.self.now.real) past c.args.lines.now h c.requires.read) (first_stage (state c.args.self.now.real) past c.args.lines.now h c.requires.read (state c.arrive-turned_away.new.self) c.arrive-turned_away.ensures.after))) c.depart-left.ensures.after))) in
     let n : c.lines.result ≡ c.args.self.now.real.lines = c.lines.ensures ∙ (ap (λ (z : State). z.lines) c.pass.ensures ∙ g.lines) in
-    subst (λ (z : State). Served (state c.args.self.now.real) z past (slot_lines c.args.self.now.real.lines c.args.lines.now) c.write-flags.result c.args.out.now c.write-flags.new.out) (sym c.pass.ensures)
-    (slot_served (state c.args.self.now.real) past c.args.lines.now h c.requires.read (state c.arrive-turned-away.new.self) (state c.transfer.new.self) (state c.depart-left.new.self) (state c.transfer-2.new.self) c.choose-first.result c.choose-second.result c.arrive-turned-away.ensures.after c.transfer.ensures (c.choose-first.ensures (one (state c.args.self.now.real) past c.args.lines.now h c.requires.read) (stage_tied _ _ _ _ (state c.arrive-turned-away.new.self) (one (state c.args.self.now.real) past c.args.lines.now h c.requires.read) (first_stage (state c.args.self.now.real) past c.args.lines.now h c.requires.read (state c.arrive-turned-away.new.self) c.arrive-turned-away.ensures.after))) c.depart-left.ensures.after c.transfer-2.ensures (c.choose-second.ensures (three (state c.args.self.now.real) past c.args.lines.now h c.requires.read) (stage_tied _ _ _ _ (state c.depart-left.new.self) (three (state c.args.self.now.real) past c.args.lines.now h c.requires.read) (third_stage (state c.args.self.now.real) past c.args.lines.now h c.requires.read (state c.arrive-turned-away.new.self) (state c.transfer.new.self) (state c.depart-left.new.self) (state c.depart-left.new.self) c.choose-first.result c.choose-first.result c.arrive-turned-away.ensures.after c.transfer.ensures (c.choose-first.ensures (one (state c.args.self.now.real) past c.args.lines.now h c.requires.read) (stage_tied _ _ _ _ (state c.arrive-turned-away.new.self) (one (state c.args.self.now.real) past c.args.lines.now h c.requires.read) (first_stage (state c.args.self.now.real) past c.args.lines.now h c.requires.read (state c.arrive-turned-away.new.self) c.arrive-turned-away.ensures.after))) c.depart-left.ensures.after))) c.args.out.now c.write-byte-begun.new.out c.depart-left.new.out c.write-flags.new.out c.write-byte-begun.result c.depart-left.result c.write-flags.result c.arrive-turned-away.result (search rules) c.arrive-turned-away.ensures.away
-    (answer_begins c.args.out.now c.write-byte-begun.new.out c.write-byte-begun.result c.write-byte-begun.ensures.bytes c.write-byte-begun.ensures.next)
+    subst (λ (z : State). Served (state c.args.self.now.real) z past (slot_lines c.args.self.now.real.lines c.args.lines.now) c.write_flags.result c.args.out.now c.write_flags.new.out) (sym c.pass.ensures)
+    (slot_served (state c.args.self.now.real) past c.args.lines.now h c.requires.read (state c.arrive-turned_away.new.self) (state c.transfer.new.self) (state c.depart-left.new.self) (state c.transfer-2.new.self) c.choose-first.result c.choose-second.result c.arrive-turned_away.ensures.after c.transfer.ensures (c.choose-first.ensures (one (state c.args.self.now.real) past c.args.lines.now h c.requires.read) (stage_tied _ _ _ _ (state c.arrive-turned_away.new.self) (one (state c.args.self.now.real) past c.args.lines.now h c.requires.read) (first_stage (state c.args.self.now.real) past c.args.lines.now h c.requires.read (state c.arrive-turned_away.new.self) c.arrive-turned_away.ensures.after))) c.depart-left.ensures.after c.transfer-2.ensures (c.choose-second.ensures (three (state c.args.self.now.real) past c.args.lines.now h c.requires.read) (stage_tied _ _ _ _ (state c.depart-left.new.self) (three (state c.args.self.now.real) past c.args.lines.now h c.requires.read) (third_stage (state c.args.self.now.real) past c.args.lines.now h c.requires.read (state c.arrive-turned_away.new.self) (state c.transfer.new.self) (state c.depart-left.new.self) (state c.depart-left.new.self) c.choose-first.result c.choose-first.result c.arrive-turned_away.ensures.after c.transfer.ensures (c.choose-first.ensures (one (state c.args.self.now.real) past c.args.lines.now h c.requires.read) (stage_tied _ _ _ _ (state c.arrive-turned_away.new.self) (one (state c.args.self.now.real) past c.args.lines.now h c.requires.read) (first_stage (state c.args.self.now.real) past c.args.lines.now h c.requires.read (state c.arrive-turned_away.new.self) c.arrive-turned_away.ensures.after))) c.depart-left.ensures.after))) c.args.out.now c.write_byte-begun.new.out c.depart-left.new.out c.write_flags.new.out c.write_byte-begun.result c.depart-left.result c.write_flags.result c.arrive-turned_away.result (search rules) c.arrive-turned_away.ensures.away
+    (answer_begins c.args.out.now c.write_byte-begun.new.out c.write_byte-begun.result c.write_byte-begun.ensures.bytes c.write_byte-begun.ensures.next)
     c.depart-left.ensures.bytes c.depart-left.ensures.next
-    (λ ds w. subst (λ (k : ℕ). Written c.args.out.now c.write-flags.new.out c.write-flags.result ds (take k c.arrive-turned-away.result)) n (c.write-flags.ensures.bytes c.args.out.now ds w)))
+    (λ ds w. subst (λ (k : ℕ). Written c.args.out.now c.write_flags.new.out c.write_flags.result ds (take k c.arrive-turned_away.result)) n (c.write_flags.ensures.bytes c.args.out.now ds w)))

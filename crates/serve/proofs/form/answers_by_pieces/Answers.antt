@@ -13,12 +13,12 @@ loop-rest-init g c =
 
 pub loop-rest-preserved : goal.loop-rest-preserved
 loop-rest-preserved g c =
-    let served = c.in-ok-serve-pending.ensures in
+    let served = c.in_ok-serve_pending.ensures in
     fed-more g.S.Switch.shows c.args.form c.args.input.now c.args.switch.now (vec_items c.new-out.result)
     c.loop-rest.rest.now (vec_items c.loop-rest.pending) c.loop-rest.switch (vec_items c.loop-rest.out) c.loop-rest.invariant
-    c.split-at.result.0.now c.split-at.result.1.now (vec_items c.extend-from-slice.new.self) (vec_items c.serve-pending.new.pending)
-    c.serve-pending.new.switch (vec_items c.serve-pending.new.out) c.split-at.ensures.by_index.0
-    (grown (vec_items c.loop-rest.pending) c.split-at.result.0.now (vec_items c.extend-from-slice.new.self) tt c.extend-from-slice.result c.in-ok-extend-from-slice.was c.extend-from-slice.ensures.items)
+    c.split_at.result.0.now c.split_at.result.1.now (vec_items c.extend_from_slice.new.self) (vec_items c.serve_pending.new.pending)
+    c.serve_pending.new.switch (vec_items c.serve_pending.new.out) c.split_at.ensures.by_index.0
+    (grown (vec_items c.loop-rest.pending) c.split_at.result.0.now (vec_items c.extend_from_slice.new.self) tt c.extend_from_slice.result c.in_ok-extend_from_slice.was c.extend_from_slice.ensures.items)
     served.1 served.0
 
 pub returns : goal.returns
@@ -26,9 +26,9 @@ returns g c =
     let served =
     fed-all g.S.Switch.shows c.args.form c.args.input.now c.args.switch.now (vec_items c.new-out.result)
     c.loop-rest.rest.now (vec_items c.loop-rest.pending) c.loop-rest.switch (vec_items c.loop-rest.out) c.loop-rest.invariant
-    c.serve-end.new.switch (vec_items c.serve-end.new.out)
-    (empty_is c.loop-rest.rest.now c.is-empty.result c.is-empty.ensures (grind (arith, c.loop-rest-test.false)))
-    (subst (λ left. Served g.S.Switch.shows (spelled c.args.form) (ending c.args.form left) c.loop-rest.switch c.serve-end.new.switch (vec_items c.loop-rest.out) (vec_items c.serve-end.new.out))
-    c.deref.ensures.value c.in-ok-serve-end.ensures) in
+    c.serve_end.new.switch (vec_items c.serve_end.new.out)
+    (empty_is c.loop-rest.rest.now c.is_empty.result c.is_empty.ensures (grind (arith, c.loop-rest-test.false)))
+    (subst (λ left. Served g.S.Switch.shows (spelled c.args.form) (ending c.args.form left) c.loop-rest.switch c.serve_end.new.switch (vec_items c.loop-rest.out) (vec_items c.serve_end.new.out))
+    c.deref.ensures.value c.in_ok-serve_end.ensures) in
     served.answers Unset c.requires.unset
     ∙ ap (λ out. out ++ flat_map (spelled c.args.form) (answers_to Unset (whole_words c.args.form c.args.input.now))) c.new-out.ensures.items

@@ -11,5 +11,5 @@ returns-in-Frames g c =
 
 pub returns-in-Lines : goal.returns-in-Lines
 returns-in-Lines g c =
-    subst (λ (f : Form). MatchResult c.end-lines.result (λ _. Served g.S.Switch.shows (spelled f) (ending f c.args.left.now) c.args.switch.now c.end-lines.new.switch (vec_items c.args.out.now) (vec_items c.end-lines.new.out)) (λ _. Stopped g.S.Switch.shows (spelled f) (ending f c.args.left.now) c.args.switch.now c.end-lines.new.switch (vec_items c.args.out.now) (vec_items c.end-lines.new.out)))
-    (sym c.in-Lines.is) c.end-lines.ensures
+    subst (λ (f : Form). MatchResult c.end_lines.result (λ _. Served g.S.Switch.shows (spelled f) (ending f c.args.left.now) c.args.switch.now c.end_lines.new.switch (vec_items c.args.out.now) (vec_items c.end_lines.new.out)) (λ _. Stopped g.S.Switch.shows (spelled f) (ending f c.args.left.now) c.args.switch.now c.end_lines.new.switch (vec_items c.args.out.now) (vec_items c.end_lines.new.out)))
+    (sym c.in-Lines.is) c.end_lines.ensures

@@ -11,5 +11,5 @@ returns-in-Frames g c =
 
 pub returns-in-Lines : goal.returns-in-Lines
 returns-in-Lines g c =
-    subst (λ (f : Form). MatchResult c.serve-lines.result (λ used. Served g.S.Switch.shows (spelled f) (cut f c.args.input.now).0 c.args.switch.now c.serve-lines.new.switch (vec_items c.args.out.now) (vec_items c.serve-lines.new.out) × Used used c.args.input.now (cut f c.args.input.now).1) (λ _. Stopped g.S.Switch.shows (spelled f) (cut f c.args.input.now).0 c.args.switch.now c.serve-lines.new.switch (vec_items c.args.out.now) (vec_items c.serve-lines.new.out)))
-    (sym c.in-Lines.is) c.serve-lines.ensures
+    subst (λ (f : Form). MatchResult c.serve_lines.result (λ used. Served g.S.Switch.shows (spelled f) (cut f c.args.input.now).0 c.args.switch.now c.serve_lines.new.switch (vec_items c.args.out.now) (vec_items c.serve_lines.new.out) × Used used c.args.input.now (cut f c.args.input.now).1) (λ _. Stopped g.S.Switch.shows (spelled f) (cut f c.args.input.now).0 c.args.switch.now c.serve_lines.new.switch (vec_items c.args.out.now) (vec_items c.serve_lines.new.out)))
+    (sym c.in-Lines.is) c.serve_lines.ensures

@@ -10,8 +10,8 @@ returns-then-size-eq0 g c =
     (vec_items c.args.out.now) c.answer-size.result c.args.switch.now c.answer-size.new.self
     c.answer-size.ensures.answers c.answer-size.ensures.goes_on (omega arith)
 
-pub slice-bounds-push-hex-line-end : goal.slice-bounds-push-hex-line-end
-slice-bounds-push-hex-line-end g c =
+pub slice_bounds-push_hex_line-end : goal.slice_bounds-push_hex_line-end
+slice_bounds-push_hex_line-end g c =
     let fits =
     answer-fits c.requires.0 c.args.word.now c.args.buffer.now c.answer-size.new.out c.answer-size.result
     (c.answer-size.ensures.answers c.requires.0 c.requires.1) in
@@ -21,5 +21,5 @@ pub returns : goal.returns
 returns g c =
     wrote_one g.S.Switch.shows hex_line c.args.word.now c.args.buffer.now c.answer-size.new.out
     (vec_items c.args.out.now) c.answer-size.result c.args.switch.now c.answer-size.new.self
-    c.answer-size.ensures.answers c.answer-size.ensures.goes_on c.push-hex-line.result (vec_items c.push-hex-line.new.out)
-    (omega arith) c.push-hex-line.ensures.items
+    c.answer-size.ensures.answers c.answer-size.ensures.goes_on c.push_hex_line.result (vec_items c.push_hex_line.new.out)
+    (omega arith) c.push_hex_line.ensures.items

@@ -10,14 +10,14 @@ pub loop-line-init : goal.loop-line-init
 loop-line-init g c =
     going_none g.S.Switch.shows hex_line line_words c.args.input.now c.args.switch.now (vec_items c.args.out.now)
 
-pub serve-line-requires : goal.serve-line-requires
-serve-line-requires g c =
+pub serve_line-requires : goal.serve_line-requires
+serve_line-requires g c =
     going_shown g.S.Switch.shows hex_line line_words c.args.input.now c.loop-line.rest.now c.args.switch.now
     c.loop-line.switch (vec_items c.args.out.now) (vec_items c.loop-line.out) c.loop-line.invariant c.requires
 
-pub returns-in-err--spells : goal.returns-in-err--spells
-returns-in-err--spells g c =
-    let p = err_from_is_err_and c.from-residual.result c.from-residual.ensures.1 in
+pub returns-in_err-_spells : goal.returns-in_err-_spells
+returns-in_err-_spells g c =
+    let p = err_from_is_err_and c.from_residual.result c.from_residual.ensures.1 in
     rw p.1
     (going-stops g.S.Switch.shows hex_line line_words c.args.input.now c.loop-line.rest.now c.args.switch.now
     c.loop-line.switch (vec_items c.args.out.now) (vec_items c.loop-line.out) c.loop-line.invariant
@@ -25,34 +25,34 @@ returns-in-err--spells g c =
     (line_cut c.loop-line.rest.now c.in-Some.line.text.now c.in-Some.line.rest.now c.in-Some.ensures.value)
     (stopped_at_once g.S.Switch.shows hex_line (word_of c.in-Some.line.text.now ∷ []) c.loop-line.switch (vec_items c.loop-line.out)))
 
-pub returns-in-err-serve-line : goal.returns-in-err-serve-line
-returns-in-err-serve-line g c =
-    let p = err_from_is_err_and c.from-residual-in-err-serve-line.result c.from-residual-in-err-serve-line.ensures.1 in
+pub returns-in_err-serve_line : goal.returns-in_err-serve_line
+returns-in_err-serve_line g c =
+    let p = err_from_is_err_and c.from_residual-in_err-serve_line.result c.from_residual-in_err-serve_line.ensures.1 in
     let read =
-    word_read c.in-Some.line.text.now (vec_items c.read-hex.new.word) c.deref.result.now c.in-ok--spells.-spells
-    c.read-hex.result c.in-ok--spells.was c.read-hex.ensures.items c.deref.ensures.value in
+    word_read c.in-Some.line.text.now (vec_items c.read_hex.new.word) c.deref.result.now c.in_ok-_spells._spells
+    c.read_hex.result c.in_ok-_spells.was c.read_hex.ensures.items c.deref.ensures.value in
     rw p.1
     (going-stops g.S.Switch.shows hex_line line_words c.args.input.now c.loop-line.rest.now c.args.switch.now
     c.loop-line.switch (vec_items c.args.out.now) (vec_items c.loop-line.out) c.loop-line.invariant
-    (word_of c.in-Some.line.text.now) c.in-Some.line.rest.now c.serve-line.new.switch (vec_items c.serve-line.new.out)
+    (word_of c.in-Some.line.text.now) c.in-Some.line.rest.now c.serve_line.new.switch (vec_items c.serve_line.new.out)
     (line_cut c.loop-line.rest.now c.in-Some.line.text.now c.in-Some.line.rest.now c.in-Some.ensures.value)
-    (subst (λ w. Stopped g.S.Switch.shows hex_line (w ∷ []) c.loop-line.switch c.serve-line.new.switch (vec_items c.loop-line.out) (vec_items c.serve-line.new.out))
-    read c.in-err-serve-line.ensures))
+    (subst (λ w. Stopped g.S.Switch.shows hex_line (w ∷ []) c.loop-line.switch c.serve_line.new.switch (vec_items c.loop-line.out) (vec_items c.serve_line.new.out))
+    read c.in_err-serve_line.ensures))
 
 pub loop-line-preserved : goal.loop-line-preserved
 loop-line-preserved g c =
     let read =
-    word_read c.in-Some.line.text.now (vec_items c.read-hex.new.word) c.deref.result.now c.in-ok--spells.-spells
-    c.read-hex.result c.in-ok--spells.was c.read-hex.ensures.items c.deref.ensures.value in
+    word_read c.in-Some.line.text.now (vec_items c.read_hex.new.word) c.deref.result.now c.in_ok-_spells._spells
+    c.read_hex.result c.in_ok-_spells.was c.read_hex.ensures.items c.deref.ensures.value in
     going_more g.S.Switch.shows hex_line line_words c.args.input.now c.loop-line.rest.now c.args.switch.now
     c.loop-line.switch (vec_items c.args.out.now) (vec_items c.loop-line.out) c.loop-line.invariant
-    (word_of c.in-Some.line.text.now) c.in-Some.line.rest.now c.serve-line.new.switch (vec_items c.serve-line.new.out)
+    (word_of c.in-Some.line.text.now) c.in-Some.line.rest.now c.serve_line.new.switch (vec_items c.serve_line.new.out)
     (line_cut c.loop-line.rest.now c.in-Some.line.text.now c.in-Some.line.rest.now c.in-Some.ensures.value)
-    (subst (λ w. Served g.S.Switch.shows hex_line (w ∷ []) c.loop-line.switch c.serve-line.new.switch (vec_items c.loop-line.out) (vec_items c.serve-line.new.out))
-    read c.in-ok-serve-line.ensures)
+    (subst (λ w. Served g.S.Switch.shows hex_line (w ∷ []) c.loop-line.switch c.serve_line.new.switch (vec_items c.loop-line.out) (vec_items c.serve_line.new.out))
+    read c.in_ok-serve_line.ensures)
 
-pub overflow-sub-result : goal.overflow-sub-result
-overflow-sub-result g c =
+pub overflow_sub-result : goal.overflow_sub-result
+overflow_sub-result g c =
     going_within g.S.Switch.shows hex_line line_words c.args.input.now c.loop-line.rest.now c.args.switch.now
     c.loop-line.switch (vec_items c.args.out.now) (vec_items c.loop-line.out) c.loop-line.invariant
 
@@ -60,4 +60,4 @@ pub returns : goal.returns
 returns g c =
     going-ends g.S.Switch.shows hex_line line_words c.args.input.now c.loop-line.rest.now c.args.switch.now
     c.loop-line.switch (vec_items c.args.out.now) (vec_items c.loop-line.out) c.loop-line.invariant
-    (line_end c.loop-line.rest.now c.in-default.ensures.value)
+    (line_end c.loop-line.rest.now c.in_default.ensures.value)

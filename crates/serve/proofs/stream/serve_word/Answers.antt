@@ -10,15 +10,15 @@ returns-then-size-eq0 g c =
     (vec_items c.args.out.now) c.answer-size.result c.args.switch.now c.answer-size.new.self
     c.answer-size.ensures.answers c.answer-size.ensures.goes_on (omega arith)
 
-pub slice-bounds-push-frame-end : goal.slice-bounds-push-frame-end
-slice-bounds-push-frame-end g c =
+pub slice_bounds-push_frame-end : goal.slice_bounds-push_frame-end
+slice_bounds-push_frame-end g c =
     let fits =
     answer-fits c.requires.0 c.args.word.now c.args.buffer.now c.answer-size.new.out c.answer-size.result
     (c.answer-size.ensures.answers c.requires.0 c.requires.1) in
     search rules
 
-pub push-frame-requires : goal.push-frame-requires
-push-frame-requires g c =
+pub push_frame-requires : goal.push_frame-requires
+push_frame-requires g c =
     let long = length-take (c.answer-size.result - 0) c.answer-size.new.out in
     omega arith
 
@@ -26,5 +26,5 @@ pub returns : goal.returns
 returns g c =
     wrote_one g.S.Switch.shows framed c.args.word.now c.args.buffer.now c.answer-size.new.out
     (vec_items c.args.out.now) c.answer-size.result c.args.switch.now c.answer-size.new.self
-    c.answer-size.ensures.answers c.answer-size.ensures.goes_on c.push-frame.result (vec_items c.push-frame.new.out)
-    (omega arith) c.push-frame.ensures.items
+    c.answer-size.ensures.answers c.answer-size.ensures.goes_on c.push_frame.result (vec_items c.push_frame.new.out)
+    (omega arith) c.push_frame.ensures.items
