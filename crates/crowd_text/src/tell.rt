@@ -10,21 +10,12 @@ use crossbox::Cell;
 use crowd::{Crowd, Due, differs, next_part};
 use ideal::IdealBox;
 use std::alloc::AllocError;
-use std::fmt;
 use std::fmt::Write;
 use switch::Switch;
 use words::{Kind, REFUSAL};
 
 // The most lines.
 const MOST: u8 = 32;
-
-// Where text finds no room, memory is out.
-fn written(res: fmt::Result) -> Result<(), AllocError> {
-    match res {
-        Ok(()) => Ok(()),
-        Err(_) => Err(AllocError),
-    }
-}
 
 // The number of lines, as small as it is known to be.
 fn lines_of(crowd: &Crowd<'_>) -> u8
@@ -61,7 +52,7 @@ fn tell_over(picks: &[Option<Cell>; 32], out: &mut String) -> Result<(), AllocEr
         if let Some(cell) = pick {
             let output = cell.output;
             let slot = cell.slot;
-            written(writeln!(out, "over {input} {output} {slot}"))?;
+            writeln!(out, "over {input} {output} {slot}")?;
         }
     }
     Ok(())
@@ -74,7 +65,7 @@ fn tell_leaves(n: u8, answer: &[u8], out: &mut String) -> Result<(), AllocError>
         let part = next_part(rest);
         if let [input, a, b, c, d, ..] = part.bytes {
             let slot = u32::from_be_bytes([*a, *b, *c, *d]);
-            written(writeln!(out, "leaves {output} {input} {slot}"))?;
+            writeln!(out, "leaves {output} {input} {slot}")?;
         }
         rest = part.rest;
     }
@@ -90,11 +81,11 @@ fn tell_differs(n: u8, real: &[u8], ideal: &[u8], out: &mut String) -> Result<()
     for output in 0..n {
         if found[output as usize] {
             same = false;
-            written(writeln!(out, "differs {output}"))?;
+            writeln!(out, "differs {output}")?;
         }
     }
     if same {
-        written(writeln!(out, "same"))?;
+        writeln!(out, "same")?;
     }
     Ok(())
 }
@@ -109,10 +100,10 @@ fn tell_list(crowd: &Crowd<'_>, input: u8, out: &mut String) -> Result<(), Alloc
         let output = cell.output;
         let slot = cell.slot;
         let earlier = crowd.earlier_stored(cell);
-        written(writeln!(
+        writeln!(
             out,
             "waits {input} {output} {slot} before {k} earlier {earlier}"
-        ))?;
+        )?;
     }
     Ok(())
 }
@@ -131,10 +122,10 @@ fn tell_waits(crowd: &Crowd<'_>, out: &mut String) -> Result<(), AllocError>
 fn tell_slot(crowd: &Crowd<'_>, out: &mut String) -> Result<(), AllocError> {
     let slots = crowd.slots();
     let slot = if slots > 0 { slots - 1 } else { 0 };
-    written(writeln!(out, "slot {slot}"))?;
+    writeln!(out, "slot {slot}")?;
     for input in 0..lines_of(crowd) {
         if crowd.turned_away(input) {
-            written(writeln!(out, "away {input}"))?;
+            writeln!(out, "away {input}")?;
         }
     }
     Ok(())
@@ -149,7 +140,7 @@ fn tell_first(
     out: &mut String,
 ) -> Result<(), AllocError> {
     let lines = lines_of(crowd);
-    written(writeln!(out, "choice 1"))?;
+    writeln!(out, "choice 1")?;
     tell_over(picks, out)?;
     tell_leaves(lines, &real[1..], out)?;
     tell_differs(lines, &real[1..], &ideal[1..], out)
@@ -163,7 +154,7 @@ fn tell_second(
 ) -> Result<(), AllocError>
     requires { (st : Status) × Shows (state crowd.now) st }
 {
-    written(writeln!(out, "choice 2"))?;
+    writeln!(out, "choice 2")?;
     tell_over(picks, out)?;
     tell_waits(crowd, out)
 }
@@ -188,13 +179,13 @@ fn tell_choice(
 // Settings that were taken.
 fn tell_settings(crowd: &Crowd<'_>, out: &mut String) -> Result<(), AllocError> {
     let lines = crowd.lines();
-    written(writeln!(out, "settings {lines}"))
+    writeln!(out, "settings {lines}")
 }
 
 // What was refused.
 fn tell_refusal(real: &[u8; 2241], out: &mut String) -> Result<(), AllocError> {
     let fault = real[1];
-    written(writeln!(out, "refused {fault}"))
+    writeln!(out, "refused {fault}")
 }
 
 // The crowd's answer to a word.
