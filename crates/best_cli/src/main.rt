@@ -4,6 +4,7 @@
 use buffer::{Head, PLACES};
 use cli::CliError;
 use ideal::ROOM;
+use std::process::ExitCode;
 use switch::best_box;
 
 // How many lines there are at most.
@@ -22,7 +23,10 @@ fn best(rt: &HostRuntime) -> Result<(), CliError> {
     cli::run(rt, "best", &mut ideal)
 }
 
-fn main(rt: HostRuntime) -> Result<(), CliError> {
+fn main(rt: HostRuntime) -> ExitCode {
     let result = best(&rt);
-    cli::report(&rt, "best", result)
+    match cli::report(&rt, "best", result) {
+        Ok(()) => ExitCode::SUCCESS,
+        Err(_) => ExitCode::FAILURE,
+    }
 }

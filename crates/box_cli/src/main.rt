@@ -4,6 +4,7 @@
 use buffer::{Head, PLACES};
 use cli::CliError;
 use fabric::Fabric;
+use std::process::ExitCode;
 
 // A list for each input and a store for each output, each with room for every place.
 const ROWS: usize = 64;
@@ -21,7 +22,10 @@ fn real(rt: &HostRuntime) -> Result<(), CliError> {
     cli::run(rt, "box", &mut fabric)
 }
 
-fn main(rt: HostRuntime) -> Result<(), CliError> {
+fn main(rt: HostRuntime) -> ExitCode {
     let result = real(&rt);
-    cli::report(&rt, "box", result)
+    match cli::report(&rt, "box", result) {
+        Ok(()) => ExitCode::SUCCESS,
+        Err(_) => ExitCode::FAILURE,
+    }
 }

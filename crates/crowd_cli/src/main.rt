@@ -13,6 +13,7 @@ use crowd::Crowd;
 use crowd_text::{tell_end, tell_stream};
 use ideal::{IdealBox, ROOM};
 use serve::{Form, zeros};
+use std::process::ExitCode;
 
 // How many lines there are at most.
 const LINES: usize = 32;
@@ -118,7 +119,10 @@ fn serve_request(rt: &HostRuntime) -> Result<(), CliError> {
     }
 }
 
-fn main(rt: HostRuntime) -> Result<(), CliError> {
+fn main(rt: HostRuntime) -> ExitCode {
     let result = serve_request(&rt);
-    cli::report(&rt, "crowd", result)
+    match cli::report(&rt, "crowd", result) {
+        Ok(()) => ExitCode::SUCCESS,
+        Err(_) => ExitCode::FAILURE,
+    }
 }
