@@ -1,7 +1,7 @@
 -- Carrying a cell from one row into another: the memory stays sound, the one row lacks the cell, the other has it behind its first j,
 -- and the other rows hold what they held.
 use Rattle.std.proofs.Common.{◌≡◌, ℕ, zero, suc, ◌+◌, ◌-◌, ◌*◌, ◌<◌, ◌≤◌, List, [], ◌∷◌, ◌++◌, map, length, get_or, take, drop, set, sym, refl, ap, ◌∙◌, subst, arith}
-use Rattle.std.specs.List.{AllByRecursion as All, insert, remove as removed}
+use Rattle.std.specs.List.{AllByRecursion, insert, remove as removed}
 use Rattle.std.proofs.lemmas.List.{length-set, set-set, set-get_or, get_or-set_same, get_or-set_other, take-set, length-take-le, length-drop}
 use Rattle.crossbox.specs.declared.Cell.{Cell}
 use Rattle.buffer.specs.declared.Head.{Head}
@@ -40,7 +40,7 @@ respared_sound m spare l e s =
       short = s.short;
       owned = s.owned;
       apart = s.apart;
-      free_owned = subst (λ (xs : List ℕ). All (Owned m 0) xs) (sym e) s.free_owned;
+      free_owned = subst (λ (xs : List ℕ). AllByRecursion (Owned m 0) xs) (sym e) s.free_owned;
       free_apart = subst (λ (xs : List ℕ). Distinct xs) (sym e) s.free_apart;
       whole = s.whole;
     }

@@ -1,19 +1,19 @@
 -- Lists in which no number stands twice, after a number is put in or taken out.
 use Rattle.std.proofs.Common.{◌≡◌, ℕ, zero, suc, ◌+◌, ◌-◌, ◌<◌, ◌≤◌, List, [], ◌∷◌, ◌++◌, length, get_or, take, drop, sym, refl, ap, ◌∙◌, arith}
-use Rattle.std.specs.List.{AllByRecursion as All, insert, remove}
+use Rattle.std.specs.List.{AllByRecursion, insert, remove}
 use Rattle.std.proofs.ByRecursion.{All-append, All-take, All-drop, All-get_or}
 use Rattle.buffer.specs.Memory.{Distinct}
 
 -- a number stands nowhere in a list
 abbrev pub Lacks : ℕ → List ℕ → Type 0
-Lacks x xs = All (λ y. x ≡ y → ⊥) xs
+Lacks x xs = AllByRecursion (λ y. x ≡ y → ⊥) xs
 
-pub all_inserted : {X : Type 0} (P : X → Type 0) (xs : List X) (k : ℕ) (x : X) → P x → All P xs → All P (insert xs k x)
+pub all_inserted : {X : Type 0} (P : X → Type 0) (xs : List X) (k : ℕ) (x : X) → P x → AllByRecursion P xs → AllByRecursion P (insert xs k x)
 all_inserted P xs zero x p h = (p, h)
 all_inserted P [] (suc k) x p h = (p, h)
 all_inserted P (y ∷ ys) (suc k) x p h = (h.0, all_inserted P ys k x p h.1)
 
-pub all_removed : {X : Type 0} (P : X → Type 0) (xs : List X) (k : ℕ) → All P xs → All P (remove xs k)
+pub all_removed : {X : Type 0} (P : X → Type 0) (xs : List X) (k : ℕ) → AllByRecursion P xs → AllByRecursion P (remove xs k)
 all_removed P xs k h = All-append P (take k xs) (drop (suc k) xs) (All-take P k xs h) (All-drop P (suc k) xs h)
 
 pub distinct_inserted : (xs : List ℕ) (k x : ℕ) → Lacks x xs → Distinct xs → Distinct (insert xs k x)
@@ -51,7 +51,7 @@ distinct_push [] x h d = (tt, tt)
 distinct_push (y ∷ ys) x h d =
     (All-append (λ z. y ≡ z → ⊥) ys (x ∷ []) d.0 (λ e. h.0 (sym e), tt), distinct_push ys x h.1 d.1)
 
-all_last : {X : Type 0} (P : X → Type 0) (xs : List X) (x : X) → All P (xs ++ (x ∷ [])) → P x
+all_last : {X : Type 0} (P : X → Type 0) (xs : List X) (x : X) → AllByRecursion P (xs ++ (x ∷ [])) → P x
 all_last P [] x h = h.0
 all_last P (y ∷ ys) x h = all_last P ys x h.1
 
@@ -62,6 +62,6 @@ distinct_last [] x d = tt
 distinct_last (y ∷ ys) x d =
     (λ e. all_last (λ z. y ≡ z → ⊥) ys x d.0 (sym e), distinct_last ys x d.1)
 
-pub all_both : {X : Type 0} (P Q : X → Type 0) (xs : List X) → All P xs → All Q xs → All (λ x. P x × Q x) xs
+pub all_both : {X : Type 0} (P Q : X → Type 0) (xs : List X) → AllByRecursion P xs → AllByRecursion Q xs → AllByRecursion (λ x. P x × Q x) xs
 all_both P Q [] h k = tt
 all_both P Q (x ∷ xs) h k = ((h.0, k.0), all_both P Q xs h.1 k.1)

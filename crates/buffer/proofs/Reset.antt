@@ -1,6 +1,6 @@
 -- A memory that was made empty is sound, and so is a fresh one.
 use Rattle.std.proofs.Common.{◌≡◌, ℕ, zero, suc, ◌+◌, ◌-◌, ◌*◌, ◌<◌, ◌≤◌, Bool, true, false, ◌&&◌, leb, List, [], ◌∷◌, ◌++◌, map, length, get_or, take, drop, set, replicate, sum, sym, refl, ap, ◌∙◌, subst, add-one, arith}
-use Rattle.std.specs.List.{range_with_len, AllByRecursion as All}
+use Rattle.std.specs.List.{range_with_len, AllByRecursion}
 use Rattle.std.proofs.lemmas.List.{length-replicate, length-append, length-drop, get_or-replicate, get_or_append_left, take_at}
 use Rattle.std.proofs.ByRecursion.{All-weaker}
 use Rattle.std.proofs.lemmas.List.FromFn.{length-range_with_len}
@@ -14,7 +14,7 @@ sum_zeros : (n : ℕ) → sum (replicate n 0) ≡ 0
 sum_zeros zero = refl
 sum_zeros (suc n) = sum_by-cons (λ x. x) 0 (replicate n 0) ∙ omega (arith, sum_zeros n)
 
-counting_from : (a n : ℕ) → All (λ p. (a ≤ p) × (p < a + n)) (range_with_len a n)
+counting_from : (a n : ℕ) → AllByRecursion (λ p. (a ≤ p) × (p < a + n)) (range_with_len a n)
 counting_from a zero = tt
 counting_from a (suc n) =
     ((omega arith, omega arith), All-weaker _ _ (λ p h. (omega arith, omega arith)) (range_with_len (a + 1) n) (counting_from (a + 1) n))
@@ -59,9 +59,9 @@ module _ (m : Mem) (n : ℕ) (s : Sound m) (few : n ≤ 8224) (hs : n ≤ length
         lens_count = length-replicate m.count 0;
         few = few;
         short = λ r h. omega (arith, no_rows r h);
-        owned = λ r h. subst (λ (xs : List ℕ). All (Owned (reset n m) (r + 1)) xs) (sym (reset-row r h)) tt;
+        owned = λ r h. subst (λ (xs : List ℕ). AllByRecursion (Owned (reset n m) (r + 1)) xs) (sym (reset-row r h)) tt;
         apart = λ r h. subst (λ (xs : List ℕ). Distinct xs) (sym (reset-row r h)) nothing;
-        free_owned = subst (λ (xs : List ℕ). All (Owned (reset n m) 0) xs) (sym free_row) (All-weaker _ _ free_head (range_with_len 0 n) (counting_from 0 n));
+        free_owned = subst (λ (xs : List ℕ). AllByRecursion (Owned (reset n m) 0) xs) (sym free_row) (All-weaker _ _ free_head (range_with_len 0 n) (counting_from 0 n));
         free_apart = subst (λ (xs : List ℕ). Distinct xs) (sym free_row) (counting_apart 0 n);
         whole = omega (arith, sum_zeros m.count);
       }
@@ -80,7 +80,7 @@ module _ (count room : ℕ) (heads : List Head) (cells : List (List ℕ)) (rows 
         lens_count = length-replicate count 0;
         few = omega arith;
         short = λ r h. omega (arith, get_or-replicate {A = ℕ} count r 0 0 h);
-        owned = λ r h. subst (λ (xs : List ℕ). All (Owned (fresh count room heads cells rows spare) (r + 1)) xs) (sym (fresh-row r h)) tt;
+        owned = λ r h. subst (λ (xs : List ℕ). AllByRecursion (Owned (fresh count room heads cells rows spare) (r + 1)) xs) (sym (fresh-row r h)) tt;
         apart = λ r h. subst (λ (xs : List ℕ). Distinct xs) (sym (fresh-row r h)) nothing;
         free_owned = tt;
         free_apart = nothing;

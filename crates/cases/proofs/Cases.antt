@@ -1,6 +1,6 @@
 -- Every claim of the worked cases holds, by computing.
 use Rattle.std.proofs.Common.{◌≡◌, ℕ, ◌-◌, ◌/◌, ◌%◌, List, [], ◌∷◌, map, replicate, refl, subst}
-use Rattle.std.specs.List.{range_with_len, AllByRecursion as All}
+use Rattle.std.specs.List.{range_with_len, AllByRecursion}
 use Rattle.crossbox.specs.declared.Cell.{Cell}
 use Rattle.crossbox.specs.Box.{Box}
 use Rattle.cases.specs.Writing.{cell, slots, box_of}
@@ -23,7 +23,7 @@ box_f_lem = refl
 case_f_lem : CaseHolds case_f
 unfolding computing
 case_f_lem =
-    subst (λ (b : Box). All (Holds case_f b) case_f.claims) box_f_lem
+    subst (λ (b : Box). AllByRecursion (Holds case_f b) case_f.claims) box_f_lem
     ((refl, refl) ▸ (refl, refl) ▸ (refl, refl) ▸ (refl, refl) ▸ refl ▸ tt)
 
 pub cases_hold : CasesHold

@@ -1,7 +1,7 @@
 -- Worked cases of the rules, as rows of one table: what is so before a slot, what arrives, and what is claimed. Assumes nothing.
 -- Every cell carries 64 zeros.
 use Rattle.std.specs.Prelude.{◌≡◌, ℕ, Bool, true, false, not, List, [], ◌∷◌, ◌++◌, map, length, replicate, Some, None, Option}
-use Rattle.std.specs.List.{range_with_len, AllByRecursion as All}
+use Rattle.std.specs.List.{range_with_len, AllByRecursion}
 use Rattle.crossbox.specs.declared.Arrival.{Arrival}
 use Rattle.crossbox.specs.declared.Arrival.TheVariants.{Nothing, For}
 use Rattle.crossbox.specs.declared.Cell.{Cell}
@@ -217,8 +217,8 @@ cases = case_a ∷ case_b ∷ case_c ∷ case_d ∷ case_e ∷ case_f ∷ case_g
 
 -- all claims of a case hold
 abbrev pub CaseHolds : Case → Type 0
-CaseHolds c = All (Holds c (standing c.lines c.before)) c.claims
+CaseHolds c = AllByRecursion (Holds c (standing c.lines c.before)) c.claims
 
 -- Every case of the table holds.
 abbrev pub CasesHold : Type 0
-CasesHold = All CaseHolds cases
+CasesHold = AllByRecursion CaseHolds cases

@@ -1,7 +1,7 @@
 -- What comes near the real box and is not meant, as rows of one table: a manner, and slots in which it goes wrong. Assumes nothing.
 use Rattle.std.specs.Prelude.{◌≡◌, ℕ, zero, suc, ◌+◌, ◌<◌, ◌≤◌, true, false, cond, List, [], ◌∷◌, ◌++◌, length, Some, None, Option, ◌≢◌, nat_lt}
 use Prim.Native.String.{String}
-use Rattle.std.specs.List.{AllByRecursion as All}
+use Rattle.std.specs.List.{AllByRecursion}
 use Rattle.crossbox.specs.declared.Cell.{Cell}
 use Rattle.crossbox.specs.Cells.{Arrivals, is_in, earliest}
 use Rattle.crossbox.specs.Ideal.{first, departure}
@@ -130,7 +130,7 @@ misses =
 
 -- Every row of the table goes well up to its slot, and then every claim of it holds.
 abbrev pub MissesGoWrong : Type 0
-MissesGoWrong = All (λ r. Alike r.manner r.lines r.past × All (Holds r) r.claims) misses
+MissesGoWrong = AllByRecursion (λ r. Alike r.manner r.lines r.past × AllByRecursion (Holds r) r.claims) misses
 
 -- Who is left behind without a reason shows that a choice is not stable.
 abbrev pub LeftBehindIsUnstable : Type 0

@@ -1,6 +1,6 @@
 -- The test of a choice, loop by loop.
 use Rattle.std.proofs.Common.{◌≡◌, ℕ, zero, suc, ◌+◌, ◌-◌, ◌<◌, ◌≤◌, Bool, true, false, cond, not, ◌&&◌, ◌||◌, eqb, ltb, List, [], ◌∷◌, length, get_or, drop, set, replicate, Some, None, Ok, Err, Option, Result, sym, refl, ap, ◌∙◌, subst, inl, inr, add-one, arith}
-use Rattle.std.specs.List.{AllByRecursion as All}
+use Rattle.std.specs.List.{AllByRecursion}
 use Rattle.std.proofs.ByRecursion.{All-get_or}
 use Rattle.std.proofs.lemmas.List.{length-set, get_or-set_same, get_or-set_other, at_drop_more, at_drop_all, get_or-replicate}
 use Rattle.std.proofs.lemmas.Bool.{cases_eq, cases_Bool, and_parts, eqb-true}
@@ -176,14 +176,14 @@ all_settled-not n k gets ch b h w =
     elim (cases_Bool (all_settled n gets ch b)) [ inl t ↦ absurd (let z = all_settled_at n k gets ch b t h in grind arith) | inr t ↦ sym t ]
 
 -- tables that agree on the outputs of waiting cells settle alike
-settled_alike : (f g : ℕ → Option Cell) (x : Arrival) (l : List Cell) → ((o : ℕ) → o < 32 → f o ≡ g o) → All (λ (c : Cell). c.output < 32) l → settled f x l ≡ settled g x l
+settled_alike : (f g : ℕ → Option Cell) (x : Arrival) (l : List Cell) → ((o : ℕ) → o < 32 → f o ≡ g o) → AllByRecursion (λ (c : Cell). c.output < 32) l → settled f x l ≡ settled g x l
 unfolding settled
 settled_alike f g x [] h a = refl
 settled_alike f g x (c ∷ l) h a =
     ap (λ (m : Option Cell). is_named c.output x || (beats m c && settled f x l)) (h c.output a.0)
     ∙ ap (λ (t : Bool). is_named c.output x || (beats (g c.output) c && t)) (settled_alike f g x l h a.1)
 
-pub all_settled_alike : (n : ℕ) (f g : ℕ → Option Cell) (ch : Arrivals) (b : Box) → ((o : ℕ) → o < 32 → f o ≡ g o) → ((i : ℕ) → i < n → All (λ (c : Cell). c.output < 32) (b.waiting i)) → all_settled n f ch b ≡ all_settled n g ch b
+pub all_settled_alike : (n : ℕ) (f g : ℕ → Option Cell) (ch : Arrivals) (b : Box) → ((o : ℕ) → o < 32 → f o ≡ g o) → ((i : ℕ) → i < n → AllByRecursion (λ (c : Cell). c.output < 32) (b.waiting i)) → all_settled n f ch b ≡ all_settled n g ch b
 unfolding all_settled
 all_settled_alike zero f g ch b h a = refl
 all_settled_alike (suc n) f g ch b h a =

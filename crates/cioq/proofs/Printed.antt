@@ -1,6 +1,6 @@
 -- What is read of memory that spells a box is of the box.
 use Rattle.std.proofs.Common.{◌≡◌, ℕ, ◌+◌, ◌<◌, ◌≤◌, true, ◌||◌, List, [], ◌∷◌, length, get_or, sym, refl, ap, ◌∙◌, subst, arith}
-use Rattle.std.specs.List.{AllByRecursion as All}
+use Rattle.std.specs.List.{AllByRecursion}
 use Rattle.crossbox.specs.declared.Cell.{Cell}
 use Rattle.crossbox.specs.Cells.{same, is_in, count_earlier}
 use Rattle.crossbox.specs.Box.{Box}
@@ -18,7 +18,7 @@ spelled_list bytes n m b sp i h = spelled-cells bytes m i (b.waiting i) (sp.list
 pub spelled_store : (bytes : Cell → List ℕ) (n : ℕ) (m : Mem) (b : Box) → Spells bytes n m b → (o : ℕ) → o < n → (box_of n m).store o ≡ b.store o
 spelled_store bytes n m b sp o h = spelled-cells bytes m (n + o) (b.store o) (sp.stores o h)
 
-aims : (l : List Cell) → ((c : Cell) → is_in c l ≡ true → c.output < 32) → All (λ (c : Cell). c.output < 32) l
+aims : (l : List Cell) → ((c : Cell) → is_in c l ≡ true → c.output < 32) → AllByRecursion (λ (c : Cell). c.output < 32) l
 unfolding is_in
 aims [] f = tt
 aims (c ∷ l) f = (f c (let s = same_refl c in grind (arith, s)), aims l (λ d h. f d (grind arith)))
@@ -26,5 +26,5 @@ aims (c ∷ l) f = (f c (let s = same_refl c in grind (arith, s)), aims l (λ d 
 -- waiting cells of a box that is spelled are for outputs that are there
 pub spelled_aimed : (bytes : Cell → List ℕ) (s : State) (b : Box) → Good s → Spells bytes s.lines s.mem b → Directed s.lines b → Aimed s
 spelled_aimed bytes s b g sp d i h =
-    subst (λ (l : List Cell). All (λ (c : Cell). c.output < 32) l) (sym (spelled_list bytes s.lines s.mem b sp i h))
+    subst (λ (l : List Cell). AllByRecursion (λ (c : Cell). c.output < 32) l) (sym (spelled_list bytes s.lines s.mem b sp i h))
     (aims (b.waiting i) (λ c l. let f = d i c l in omega (arith, g.few)))

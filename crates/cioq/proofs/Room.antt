@@ -1,6 +1,6 @@
 -- Where there are lines, a place is free, and no row is full.
 use Rattle.std.proofs.Common.{◌≡◌, ℕ, ◌+◌, ◌-◌, ◌*◌, ◌<◌, ◌≤◌, min, List, length, get_or, take, drop, sum, sym, refl, ap, ◌∙◌, subst, mul-le-mul_right, arith}
-use Rattle.std.specs.List.{AllByRecursion as All}
+use Rattle.std.specs.List.{AllByRecursion}
 use Rattle.std.proofs.lemmas.List.{length-take, length-drop, get_or-take, get_or-drop}
 use Rattle.std.proofs.ByRecursion.{All-from_get_or, sum_by_le}
 use Rattle.std.proofs.lemmas.List.Sums.{sum_by-take-drop}
@@ -9,7 +9,7 @@ use Rattle.buffer.proofs.Safety.{row_few}
 use Rattle.cioq.specs.State.{State, Good, count_of}
 
 module _ (s : State) (g : Good s) where
-  full_counts : All (λ x. x ≤ 256) (take s.lines s.counts)
+  full_counts : AllByRecursion (λ x. x ≤ 256) (take s.lines s.counts)
   full_counts =
       All-from_get_or (λ x. x ≤ 256) (take s.lines s.counts) 0
       (λ i h.
@@ -19,7 +19,7 @@ module _ (s : State) (g : Good s) where
       let u = g.full i in
       omega arith)
 
-  no_counts : All (λ x. x ≤ 0) (drop s.lines s.counts)
+  no_counts : AllByRecursion (λ x. x ≤ 0) (drop s.lines s.counts)
   no_counts =
       All-from_get_or (λ x. x ≤ 0) (drop s.lines s.counts) 0
       (λ i h.

@@ -1,6 +1,6 @@
 // The test of a choice: the lowest of its faults, or none.
 ghost use Rattle.std.specs.Prelude.{◌≡◌, ℕ, ◌<◌, ◌≤◌, length, Some, None};
-ghost use Rattle.std.specs.List.{AllByRecursion as All};
+ghost use Rattle.std.specs.List.{AllByRecursion};
 ghost use Rattle.crossbox.specs.Promise.{Fits};
 ghost use Rattle.cioq.specs.State.{state, Good, Aimed};
 ghost use Rattle.cioq.specs.Spells.{cells, box_of};
@@ -137,7 +137,7 @@ impl<'a> RealBox<'a> {
     fn settled(&self, input: u8, arrival: Arrival, gets: &[Option<Cell>; 32]) -> bool
         requires good { Good (state self.now) }
         requires there { input < (state self.now).lines }
-        requires aimed { All (λ c. c.output < 32) (cells (state self.now).mem input) }
+        requires aimed { AllByRecursion (λ c. c.output < 32) (cells (state self.now).mem input) }
         ensures { result ≡ settled (table_of gets.now) arrival (cells (state self.entry.now).mem input) }
     {
         let len = self.memory.len(input);

@@ -1,6 +1,6 @@
 -- The bytes with which cells came, as a slot is added, and what leaves with them.
 use Rattle.std.proofs.Common.{◌≡◌, ℕ, zero, suc, ◌+◌, ◌<◌, ◌≤◌, Bool, true, false, cond, ◌||◌, eqb, List, [], ◌∷◌, ◌++◌, map, length, get_or, Some, None, Option, sym, refl, ap, ◌∙◌, subst, add-one, arith}
-use Rattle.std.specs.List.{range_with_len, AllByRecursion as All}
+use Rattle.std.specs.List.{range_with_len, AllByRecursion}
 use Rattle.std.proofs.lemmas.List.FromFn.{map-range_with_len_more}
 use Rattle.std.proofs.lemmas.Bool.{cond-false, ne_eqb}
 use Rattle.crossbox.specs.declared.Cell.{Cell}
@@ -25,7 +25,7 @@ body_old s past c h =
     cond-false (eqb c.slot (length past)) (s.bodies c.input) (body_in past c) (ne_eqb c.slot (length past) (λ e. omega arith))
 
 -- what holds of each cell in a list
-all_in : (P : Cell → Type 0) (l : List Cell) → ((c : Cell) → is_in c l ≡ true → P c) → All P l
+all_in : (P : Cell → Type 0) (l : List Cell) → ((c : Cell) → is_in c l ≡ true → P c) → AllByRecursion P l
 unfolding is_in
 all_in P [] f = tt
 all_in P (c ∷ l) f = (f c (let s = same_refl c in grind (arith, s)), all_in P l (λ d h. f d (grind arith)))

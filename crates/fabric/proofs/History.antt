@@ -1,6 +1,6 @@
 -- The model's box with the finding's choices is reached by a run; and cells in memory keep their bytes as slots are added.
 use Rattle.std.proofs.Common.{◌≡◌, ℕ, zero, suc, ◌<◌, ◌≤◌, Bool, true, false, ◌||◌, List, [], ◌∷◌, map, length, sym, refl, ap, ◌∙◌, subst, arith}
-use Rattle.std.specs.List.{AllByRecursion as All}
+use Rattle.std.specs.List.{AllByRecursion}
 use Rattle.std.proofs.lemmas.Bool.{or_right}
 use Rattle.std.proofs.ByRecursion.{All-weaker}
 use Rattle.crossbox.specs.declared.Cell.{Cell}
@@ -30,7 +30,7 @@ found-run n (a ∷ past) f =
     slot a (find n (arrived 256 n past a b)) _ r st (found_in_run_again 256 n past b f.1 r a f.0 (find n (arrived 256 n past a b)) st)
 
 -- what holds of all members of a list
-all_members : (P : Cell → Type 0) (cs : List Cell) → ((c : Cell) → is_in c cs ≡ true → P c) → All P cs
+all_members : (P : Cell → Type 0) (cs : List Cell) → ((c : Cell) → is_in c cs ≡ true → P c) → AllByRecursion P cs
 unfolding is_in
 all_members P [] h = tt
 all_members P (c ∷ cs) h = (

@@ -3,7 +3,7 @@ use Rattle.std.proofs.Common.{◌≡◌, ℕ, ◌+◌, ◌*◌, ◌/◌, ◌%◌
 use Rattle.std.proofs.ByRecursion.{All-drop}
 use Rattle.std.proofs.lemmas.List.{length-append, length-drop, take-append-le, drop-append-le, take_at, drop_at, map-id, length-take-le, take-append-drop}
 use Rattle.std.proofs.lemmas.Bool.{le-leb, lt-leb, leb-true, cases_Bool}
-use Rattle.std.specs.List.{AllByRecursion as All}
+use Rattle.std.specs.List.{AllByRecursion}
 use Rattle.frames.specs.Frames.{taken, framed, next_frame, frame_limit, byte_values, frames}
 use Rattle.frames.specs.Laws.{FramesSplit, FrameRoundTrip, FramesRoundTrip, FramesRejoin}
 use Rattle.frames.proofs.Streams.{Shrinks, Stays, splits_in_turn, splits_by_pieces, split-none, split-some, round_trip, rejoins}
@@ -70,8 +70,8 @@ frames_round_trip ws tail good ends =
 -- the first frame and the bytes behind it are the bytes
 rejoins-first :
     (bytes : List ℕ) (p : List ℕ × List ℕ) →
-    All (λ b. b < byte_values) bytes →
-    next_frame bytes ≡ Some p → (bytes ≡ framed p.0 ++ p.1) × All (λ b. b < byte_values) p.1
+    AllByRecursion (λ b. b < byte_values) bytes →
+    next_frame bytes ≡ Some p → (bytes ≡ framed p.0 ++ p.1) × AllByRecursion (λ b. b < byte_values) p.1
 rejoins-first [] p good e = absurd (grind arith)
 rejoins-first (high ∷ []) p good e = absurd (grind arith)
 rejoins-first (high ∷ low ∷ bytes) p good e =
@@ -84,11 +84,11 @@ rejoins-first (high ∷ low ∷ bytes) p good e =
     sym (take-append-drop n bytes) ∙ ap (λ z. z ++ drop n bytes) (sym t.1) ∙ ap (λ z. p.0 ++ z) (sym t.2) in (
       ap (λ z. high ∷ low ∷ z) parts ∙ ap (λ z. z ∷ low ∷ (p.0 ++ p.1)) high_is
           ∙ ap (λ z. length p.0 / byte_values ∷ z ∷ (p.0 ++ p.1)) low-is,
-      subst (All (λ b. b < byte_values)) (sym t.2) (All-drop (λ b. b < byte_values) n bytes good.1.1),
+      subst (AllByRecursion (λ b. b < byte_values)) (sym t.2) (All-drop (λ b. b < byte_values) n bytes good.1.1),
     )
 
 pub frames_rejoin : FramesRejoin
-frames_rejoin = rejoins next_frame shrinks framed (All (λ b. b < byte_values)) rejoins-first
+frames_rejoin = rejoins next_frame shrinks framed (AllByRecursion (λ b. b < byte_values)) rejoins-first
 
 -- The calls, as the code has their facts.
 pub frame-taken :

@@ -2,7 +2,7 @@
 use Rattle.std.proofs.Common.{◌≡◌, ℕ, ◌+◌, ◌<◌, ◌≤◌, true, false, cond, eqb, List, [], ◌∷◌, ◌++◌, length, get_or, take, drop, Some, None, sym, refl, ap, ◌∙◌, inl, inr, append_assoc, append-nil, arith}
 use Rattle.std.proofs.lemmas.List.{take_more, drop_more, drop_all}
 use Rattle.std.proofs.lemmas.Bool.{cases_Bool, eq-eqb, ne_eqb, eqb-true}
-use Rattle.std.specs.List.{AllByRecursion as All}
+use Rattle.std.specs.List.{AllByRecursion}
 use Rattle.frames.specs.Streams.{Taken}
 use Rattle.frames.specs.Hex.{digits, ended, hex_line, line_feed, longer, next_line, lines}
 use Rattle.frames.specs.Laws.{LinesSplit, LineRoundTrip, LinesRoundTrip, LinesRejoin}
@@ -69,7 +69,7 @@ line_round_trip (b ∷ bs) rest =
     line_goes_on _ _ (digit_no_line_feed _)
     ∙ ap (longer _) (line_goes_on _ _ (digit_no_line_feed _) ∙ ap (longer _) (line_round_trip bs rest))
 
-any : (ws : List (List ℕ)) → All (λ w. Unit {0}) ws
+any : (ws : List (List ℕ)) → AllByRecursion (λ w. Unit {0}) ws
 any [] = tt
 any (w ∷ ws) = (tt, any ws)
 

@@ -1,6 +1,6 @@
 -- Splitting a stream: enough turns, the first word, bytes that come by pieces, and words read back.
 use Rattle.std.proofs.Common.{◌≡◌, ℕ, zero, suc, ◌<◌, ◌≤◌, List, [], ◌∷◌, ◌++◌, map, length, Some, None, sym, refl, ap, ◌∙◌, subst, append_assoc, arith}
-use Rattle.std.specs.List.{flat_map, AllByRecursion as All}
+use Rattle.std.specs.List.{flat_map, AllByRecursion}
 use Rattle.frames.specs.Streams.{Taken, Split, split_after, split_most, split}
 use Rattle.frames.specs.Laws.{SplitsInTurn, SplitsByPieces, then_split}
 
@@ -78,7 +78,7 @@ module _ (next : List ℕ → Taken) (shrinks : Shrinks next) where
       (one : (w rest : List ℕ) → Good w → next (spell w ++ rest) ≡ Some (value w, rest))
       (tail : List ℕ)
       (ends : next tail ≡ None) where
-    pub round_trip : (ws : List (List ℕ)) → All Good ws → split next (flat_map spell ws ++ tail) ≡ (map value ws, tail)
+    pub round_trip : (ws : List (List ℕ)) → AllByRecursion Good ws → split next (flat_map spell ws ++ tail) ≡ (map value ws, tail)
     round_trip [] good = split-none tail ends
     round_trip (w ∷ ws) good =
         let ih = round_trip ws good.1 in

@@ -1,6 +1,6 @@
 -- What the theorems say of frames and lines. Assumes nothing.
 use Rattle.std.specs.Prelude.{◌≡◌, ℕ, ◌+◌, ◌<◌, ◌≤◌, true, List, ◌∷◌, ◌++◌, map, length, Some, None}
-use Rattle.std.specs.List.{flat_map, AllByRecursion as All}
+use Rattle.std.specs.List.{flat_map, AllByRecursion}
 use Rattle.frames.specs.Streams.{Taken, Split, split, split_after}
 use Rattle.frames.specs.Frames.{byte_values, frame_limit, framed, next_frame, frames}
 use Rattle.frames.specs.Hex.{blank, digits, ended, hex_line, unhex, next_line, lines}
@@ -32,13 +32,13 @@ FrameRoundTrip =
 abbrev pub FramesRoundTrip : Type 0
 FramesRoundTrip =
     (ws : List (List ℕ)) (tail : List ℕ) →
-    All (λ w. length w < frame_limit) ws → next_frame tail ≡ None → frames (flat_map framed ws ++ tail) ≡ (ws, tail)
+    AllByRecursion (λ w. length w < frame_limit) ws → next_frame tail ≡ None → frames (flat_map framed ws ++ tail) ≡ (ws, tail)
 
 -- Bytes are the frames of their words and what is left behind them, which begins no whole frame.
 abbrev pub FramesRejoin : Type 0
 FramesRejoin =
     (bytes : List ℕ) →
-    All (λ b. b < byte_values) bytes →
+    AllByRecursion (λ b. b < byte_values) bytes →
     (bytes ≡ flat_map framed (frames bytes).0 ++ (frames bytes).1) × (next_frame (frames bytes).1 ≡ None)
 
 -- Lines are split in turn and by pieces.
@@ -47,7 +47,7 @@ LinesSplit = SplitsInTurn next_line × SplitsByPieces next_line
 
 -- A word of bytes is read back from its digits.
 abbrev pub DigitsRoundTrip : Type 0
-DigitsRoundTrip = (w : List ℕ) → All (λ b. b < byte_values) w → unhex (digits w) ≡ Some w
+DigitsRoundTrip = (w : List ℕ) → AllByRecursion (λ b. b < byte_values) w → unhex (digits w) ≡ Some w
 
 -- The digits of a word are read back from its line, whatever comes behind it.
 abbrev pub LineRoundTrip : Type 0

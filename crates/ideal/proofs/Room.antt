@@ -1,6 +1,6 @@
 -- Where there are lines, a place is free.
 use Rattle.std.proofs.Common.{◌≡◌, ℕ, ◌+◌, ◌-◌, ◌*◌, ◌<◌, ◌≤◌, min, List, length, get_or, take, drop, sum, sym, refl, ap, ◌∙◌, subst, mul-le-mul_right, arith}
-use Rattle.std.specs.List.{AllByRecursion as All}
+use Rattle.std.specs.List.{AllByRecursion}
 use Rattle.std.proofs.lemmas.List.{length-take, length-drop, get_or-take, get_or-drop}
 use Rattle.std.proofs.ByRecursion.{All-from_get_or, sum_by_le}
 use Rattle.std.proofs.lemmas.List.Sums.{sum_by-take-drop}
@@ -8,7 +8,7 @@ use Rattle.buffer.specs.Memory.{Mem, Sound, row_length}
 use Rattle.ideal.specs.State.{State, Good}
 
 module _ (s : State) (g : Good s) where
-  full_rows : All (λ x. x ≤ 256) (take s.lines s.mem.lens)
+  full_rows : AllByRecursion (λ x. x ≤ 256) (take s.lines s.mem.lens)
   full_rows =
       All-from_get_or (λ x. x ≤ 256) (take s.lines s.mem.lens) 0
       (λ i h.
@@ -18,7 +18,7 @@ module _ (s : State) (g : Good s) where
       let u = g.sound.short i (omega (arith, g.few, g.queues)) in
       omega (arith, g.rooms))
 
-  no_rows : All (λ x. x ≤ 0) (drop s.lines s.mem.lens)
+  no_rows : AllByRecursion (λ x. x ≤ 0) (drop s.lines s.mem.lens)
   no_rows =
       All-from_get_or (λ x. x ≤ 0) (drop s.lines s.mem.lens) 0
       (λ i h.

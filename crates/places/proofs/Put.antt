@@ -1,6 +1,6 @@
 -- Putting a cell into a row: the memory stays sound, the row gets the cell behind its first k, and the other rows hold what they held.
 use Rattle.std.proofs.Common.{◌≡◌, ℕ, zero, suc, ◌+◌, ◌-◌, ◌*◌, ◌<◌, ◌≤◌, List, [], ◌∷◌, ◌++◌, map, length, get_or, take, drop, set, sum, sym, refl, ap, ◌∙◌, subst, inl, inr, arith}
-use Rattle.std.specs.List.{AllByRecursion as All, insert}
+use Rattle.std.specs.List.{AllByRecursion, insert}
 use Rattle.std.proofs.lemmas.List.{length-set, length-take, get_or-take, get_or-set_same, get_or-set_other, take_more, take-take}
 use Rattle.std.proofs.ByRecursion.{All-weaker, All-get_or, All-take}
 use Rattle.std.proofs.lemmas.List.Sums.{sum_by-set}
@@ -14,7 +14,7 @@ use Rattle.places.proofs.Links.{refilled_shaped, linked-row, linked_other, linke
 use Rattle.places.proofs.Distinct.{Lacks, all_inserted, all_both, distinct_inserted, distinct-take, distinct_last}
 
 -- two functions that agree on a list map it alike
-pub map_alike : {X Y : Type 0} (f g : X → Y) (xs : List X) → All (λ x. f x ≡ g x) xs → map f xs ≡ map g xs
+pub map_alike : {X Y : Type 0} (f g : X → Y) (xs : List X) → AllByRecursion (λ x. f x ≡ g x) xs → map f xs ≡ map g xs
 map_alike f g [] h = refl
 map_alike f g (x ∷ xs) h = ap (λ y. y ∷ map f xs) h.0 ∙ ap (λ ys. g x ∷ ys) (map_alike f g xs h.1)
 
@@ -102,7 +102,7 @@ module _ (m : Mem) (r k : ℕ) (c : Cell) (body : List ℕ) (s : Sound m) (h : r
   keeps : (o p : ℕ) → Owned m o p × (next m ≡ p → ⊥) → Owned (put r k c body m) o p
   keeps o p g = (g.0.0, ap (λ (x : Head). x.owner) (head_elsewhere p g.1) ∙ g.0.1)
 
-  still : (q : ℕ) → q < m.count → All (Owned (put r k c body m) (q + 1)) (row m q)
+  still : (q : ℕ) → q < m.count → AllByRecursion (Owned (put r k c body m) (q + 1)) (row m q)
   still q i = All-weaker _ _ (keeps (q + 1)) (row m q) (all_both _ _ (row m q) (s.owned q i) (row_lacks q i))
 
   free_split : take m.free m.spare ≡ take (m.free - 1) m.spare ++ (next m ∷ [])
@@ -113,11 +113,11 @@ module _ (m : Mem) (r k : ℕ) (c : Cell) (body : List ℕ) (s : Sound m) (h : r
   free_lacks : Lacks (next m) (take (m.free - 1) m.spare)
   free_lacks = distinct_last _ (next m) (subst (λ (xs : List ℕ). Distinct xs) free_split s.free_apart)
 
-  owned_after : (q : ℕ) → q < m.count → All (Owned (put r k c body m) (q + 1)) (row (put r k c body m) q)
+  owned_after : (q : ℕ) → q < m.count → AllByRecursion (Owned (put r k c body m) (q + 1)) (row (put r k c body m) q)
   owned_after q i =
       elim (cases_eq q r) [
-        | inl e ↦ subst (λ (z : ℕ). All (Owned (put r k c body m) (z + 1)) (row (put r k c body m) z)) (sym e) (subst (λ (xs : List ℕ). All (Owned (put r k c body m) (r + 1)) xs) (sym put-row) (all_inserted _ (row m r) k (next m) (next_owned.0, ap (λ (x : Head). x.owner) head_there) (still r h)))
-        | inr ne ↦ subst (λ (xs : List ℕ). All (Owned (put r k c body m) (q + 1)) xs) (sym (put_other q i ne)) (still q i)
+        | inl e ↦ subst (λ (z : ℕ). AllByRecursion (Owned (put r k c body m) (z + 1)) (row (put r k c body m) z)) (sym e) (subst (λ (xs : List ℕ). AllByRecursion (Owned (put r k c body m) (r + 1)) xs) (sym put-row) (all_inserted _ (row m r) k (next m) (next_owned.0, ap (λ (x : Head). x.owner) head_there) (still r h)))
+        | inr ne ↦ subst (λ (xs : List ℕ). AllByRecursion (Owned (put r k c body m) (q + 1)) xs) (sym (put_other q i ne)) (still q i)
       ]
 
   apart_after : (q : ℕ) → q < m.count → Distinct (row (put r k c body m) q)
@@ -142,5 +142,5 @@ module _ (m : Mem) (r k : ℕ) (c : Cell) (body : List ℕ) (s : Sound m) (h : r
         whole = omega (arith, s.whole, sum_by-set (λ x. x) m.lens r (row_length m r + 1) 0 in_lens);
       }
     where
-      free_before : All (Owned m 0) (take (m.free - 1) m.spare)
-      free_before = subst (λ (xs : List ℕ). All (Owned m 0) xs) (take-take (m.free - 1) m.free m.spare (omega arith)) (All-take (Owned m 0) (m.free - 1) _ s.free_owned)
+      free_before : AllByRecursion (Owned m 0) (take (m.free - 1) m.spare)
+      free_before = subst (λ (xs : List ℕ). AllByRecursion (Owned m 0) xs) (take-take (m.free - 1) m.free m.spare (omega arith)) (All-take (Owned m 0) (m.free - 1) _ s.free_owned)

@@ -1,6 +1,6 @@
 -- Letting a cell go: the memory stays sound, the row lacks that cell, and the other rows hold what they held.
 use Rattle.std.proofs.Common.{◌≡◌, ℕ, zero, suc, ◌+◌, ◌-◌, ◌*◌, ◌<◌, ◌≤◌, List, [], ◌∷◌, ◌++◌, map, length, get_or, take, drop, set, sum, sym, refl, ap, ◌∙◌, subst, inl, inr, arith}
-use Rattle.std.specs.List.{AllByRecursion as All, remove as removed}
+use Rattle.std.specs.List.{AllByRecursion, remove as removed}
 use Rattle.std.proofs.lemmas.List.{length-set, get_or-set_same, get_or-set_other, take_more_set, map-append, take-map, drop-map}
 use Rattle.std.proofs.ByRecursion.{All-weaker, All-get_or, All-append}
 use Rattle.std.proofs.lemmas.List.Sums.{sum_by-set}
@@ -80,11 +80,11 @@ module _ (m : Mem) (r k : ℕ) (s : Sound m) (h : r < m.count) (lt : k < row_len
   free_after : take (m.free + 1) (remove r k m).spare ≡ take m.free m.spare ++ (place_at r k m ∷ [])
   free_after = take_more_set m.spare m.free (place_at r k m) (omega (arith, s.spare_reach, row_few m r s h))
 
-  owned_after : (q : ℕ) → q < m.count → All (Owned (remove r k m) (q + 1)) (row (remove r k m) q)
+  owned_after : (q : ℕ) → q < m.count → AllByRecursion (Owned (remove r k m) (q + 1)) (row (remove r k m) q)
   owned_after q i =
       elim (cases_eq q r) [
-        | inl e ↦ subst (λ (z : ℕ). All (Owned (remove r k m) (z + 1)) (row (remove r k m) z)) (sym e) (subst (λ (xs : List ℕ). All (Owned (remove r k m) (r + 1)) xs) (sym remove-row) (All-weaker _ _ (keeps (r + 1)) (removed (row m r) k) (all_both _ _ _ (all_removed _ (row m r) k (s.owned r h)) own_lacks)))
-        | inr ne ↦ subst (λ (xs : List ℕ). All (Owned (remove r k m) (q + 1)) xs) (sym (remove_other q i ne)) (All-weaker _ _ (keeps (q + 1)) (row m q) (all_both _ _ _ (s.owned q i) (other_lacks q i ne)))
+        | inl e ↦ subst (λ (z : ℕ). AllByRecursion (Owned (remove r k m) (z + 1)) (row (remove r k m) z)) (sym e) (subst (λ (xs : List ℕ). AllByRecursion (Owned (remove r k m) (r + 1)) xs) (sym remove-row) (All-weaker _ _ (keeps (r + 1)) (removed (row m r) k) (all_both _ _ _ (all_removed _ (row m r) k (s.owned r h)) own_lacks)))
+        | inr ne ↦ subst (λ (xs : List ℕ). AllByRecursion (Owned (remove r k m) (q + 1)) xs) (sym (remove_other q i ne)) (All-weaker _ _ (keeps (q + 1)) (row m q) (all_both _ _ _ (s.owned q i) (other_lacks q i ne)))
       ]
 
   apart_after : (q : ℕ) → q < m.count → Distinct (row (remove r k m) q)
@@ -104,7 +104,7 @@ module _ (m : Mem) (r k : ℕ) (s : Sound m) (h : r < m.count) (lt : k < row_len
         few = s.few;
         owned = owned_after;
         apart = apart_after;
-        free_owned = subst (λ (xs : List ℕ). All (Owned (remove r k m) 0) xs) (sym free_after) (All-append _ _ (place_at r k m ∷ []) (All-weaker _ _ (keeps 0) _ (all_both _ _ _ s.free_owned free_lacks)) ((gone_owned.0, ap (λ (x : Head). x.owner) head_there), tt));
+        free_owned = subst (λ (xs : List ℕ). AllByRecursion (Owned (remove r k m) 0) xs) (sym free_after) (All-append _ _ (place_at r k m ∷ []) (All-weaker _ _ (keeps 0) _ (all_both _ _ _ s.free_owned free_lacks)) ((gone_owned.0, ap (λ (x : Head). x.owner) head_there), tt));
         free_apart = subst (λ (xs : List ℕ). Distinct xs) (sym free_after) (distinct_push _ (place_at r k m) free_lacks s.free_apart);
         whole = omega (arith, s.whole, sum_by-set (λ x. x) m.lens r (row_length m r - 1) 0 in_lens);
       }

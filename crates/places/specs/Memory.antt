@@ -1,6 +1,6 @@
 -- Lent memory as plain lists, what its rows hold, and what the operations on it leave. Assumes nothing.
 use Rattle.std.specs.Prelude.{◌≡◌, ℕ, ◌+◌, ◌-◌, ◌*◌, ◌<◌, ◌≤◌, Bool, cond, ◌&&◌, List, [], ◌∷◌, ◌++◌, map, length, take, drop, replicate, sum, ◌==◌, ◌≢◌, nat_le, slice_index, slice_index_or, slice_set}
-use Rattle.std.specs.List.{range_with_len, AllByRecursion as All}
+use Rattle.std.specs.List.{range_with_len, AllByRecursion}
 use Rattle.crossbox.specs.declared.Cell.{Cell}
 use Rattle.places.specs.declared.Head.{Head}
 use Rattle.places.specs.Head.{vacant, head_of, cell_of}
@@ -87,7 +87,7 @@ held m r = map (held_at m) (row m r)
 -- no number stands twice in a list
 unfoldable pub Distinct : List ℕ → Type 0
 Distinct [] = Unit {0}
-Distinct (x ∷ xs) = All (λ y. x ≢ y) xs × Distinct xs
+Distinct (x ∷ xs) = AllByRecursion (λ y. x ≢ y) xs × Distinct xs
 
 -- place p is in use and its head says that it stands in the row before `owner`, or, at 0, that it is free
 abbrev pub Owned : Mem → ℕ → ℕ → Type 0
@@ -110,9 +110,9 @@ pub record Sound (m : Mem) : Type 0 where
   pub spare_reach : m.places ≤ length m.spare
   pub shaped : Shaped m
   pub few : m.places ≤ 8224
-  pub owned : (r : ℕ) → r < m.count → All (Owned m (r + 1)) (row m r)
+  pub owned : (r : ℕ) → r < m.count → AllByRecursion (Owned m (r + 1)) (row m r)
   pub apart : (r : ℕ) → r < m.count → Distinct (row m r)
-  pub free_owned : All (Owned m 0) (take m.free m.spare)
+  pub free_owned : AllByRecursion (Owned m 0) (take m.free m.spare)
   pub free_apart : Distinct (take m.free m.spare)
   pub whole : m.free + sum m.lens ≡ m.places
 

@@ -1,6 +1,6 @@
 -- The real box over lent memory, as plain lists and numbers. Assumes nothing.
 use Rattle.std.specs.Prelude.{◌≡◌, ℕ, ◌+◌, ◌*◌, ◌<◌, ◌≤◌, cond, List, length, replicate, sum, slice_index}
-use Rattle.std.specs.List.{AllByRecursion as All}
+use Rattle.std.specs.List.{AllByRecursion}
 use Rattle.crossbox.specs.declared.Cell.{Cell}
 use Rattle.firsts.specs.declared.Firsts.{Firsts}
 use Rattle.firsts.specs.Firsts.{TableOf, none}
@@ -43,7 +43,7 @@ Counted s = (o : ℕ) → o < s.lines → row_length s.mem (s.lines + o) ≤ cou
 
 -- every waiting cell is for one of 32 outputs
 abbrev pub Aimed : State → Type 0
-Aimed s = (i : ℕ) → i < s.lines → All (λ (c : Cell). c.output < 32) (cells s.mem i)
+Aimed s = (i : ℕ) → i < s.lines → AllByRecursion (λ (c : Cell). c.output < 32) (cells s.mem i)
 
 -- before the first settings
 abbrev pub unset : Mem → State

@@ -1,6 +1,6 @@
 -- Cells of the ideal queues come from the slots so far, and keep their bytes as slots are added.
 use Rattle.std.proofs.Common.{◌≡◌, ℕ, zero, suc, ◌+◌, ◌<◌, ◌≤◌, Bool, true, false, cond, eqb, ltb, List, [], ◌∷◌, ◌++◌, map, length, get_or, Some, None, Option, sym, refl, ap, ◌∙◌, subst, inl, inr, arith}
-use Rattle.std.specs.List.{range_with_len, AllByRecursion as All}
+use Rattle.std.specs.List.{range_with_len, AllByRecursion}
 use Rattle.std.proofs.lemmas.List.{length-map}
 use Rattle.std.proofs.ByRecursion.{All-append, All-weaker}
 use Rattle.std.proofs.lemmas.List.FromFn.{fill_by_all, length-map-range_with_len, get_or-map-range_with_len}
@@ -28,23 +28,23 @@ Before t c = c.slot < t
 
 -- all cells came before slot t
 Young : ℕ → List Cell → Type 0
-Young t cs = All (Before t) cs
+Young t cs = AllByRecursion (Before t) cs
 
 young_new : (t i o : ℕ) (x : Arrival) → Young (suc t) (cells_for t i o x)
 unfolding Young
 young_new t i o Nothing = tt
 young_new t i o (For p) =
     elim (cases_Bool (eqb p o)) [
-      | inl e ↦ subst (λ (w : Bool). All (Before (suc t)) (cond w (record { slot = t; input = i; output = p } ∷ []) [])) (sym e) (omega arith, tt)
-      | inr e ↦ subst (λ (w : Bool). All (Before (suc t)) (cond w (record { slot = t; input = i; output = p } ∷ []) [])) (sym e) tt
+      | inl e ↦ subst (λ (w : Bool). AllByRecursion (Before (suc t)) (cond w (record { slot = t; input = i; output = p } ∷ []) [])) (sym e) (omega arith, tt)
+      | inr e ↦ subst (λ (w : Bool). AllByRecursion (Before (suc t)) (cond w (record { slot = t; input = i; output = p } ∷ []) [])) (sym e) tt
     ]
 
 young_admit : (room t : ℕ) (cs q : List Cell) → Young t cs → Young t q → Young t (admit room cs q)
 unfolding Young
 young_admit room t cs q a b =
     elim (cases_Bool (ltb (length q) room)) [
-      | inl e ↦ subst (λ (w : Bool). All (Before t) (cond w (q ++ cs) q)) (sym e) (All-append (Before t) q cs b a)
-      | inr e ↦ subst (λ (w : Bool). All (Before t) (cond w (q ++ cs) q)) (sym e) b
+      | inl e ↦ subst (λ (w : Bool). AllByRecursion (Before t) (cond w (q ++ cs) q)) (sym e) (All-append (Before t) q cs b a)
+      | inr e ↦ subst (λ (w : Bool). AllByRecursion (Before t) (cond w (q ++ cs) q)) (sym e) b
     ]
 
 young_admitted : (room n t o : ℕ) (a : Arrivals) (q : List Cell) → Young (suc t) q → Young (suc t) (admitted room n t o a q)
@@ -84,7 +84,7 @@ body_new s past c e =
 pub dressed_on : (n o : ℕ) (s : SlotIn) (past : List SlotIn) → map (dressed past) (queue 256 n o (arrived past)) ≡ map (dressed (s ∷ past)) (queue 256 n o (arrived past))
 unfolding Young
 dressed_on n o s past =
-    let y = subst (λ (t : ℕ). All (Before t) (queue 256 n o (arrived past))) (length-map past (λ z. z.arrivals)) (queue_young 256 n o (arrived past)) in
+    let y = subst (λ (t : ℕ). AllByRecursion (Before t) (queue 256 n o (arrived past))) (length-map past (λ z. z.arrivals)) (queue_young 256 n o (arrived past)) in
     map_alike (dressed past) (dressed (s ∷ past)) (queue 256 n o (arrived past)) (All-weaker (Before (length past)) (λ c. dressed past c ≡ dressed (s ∷ past) c) (λ c h. ap (λ (b : List ℕ). record { cell = c; body = b }) (sym (body_old s past c h))) (queue 256 n o (arrived past)) y)
 
 pub queue-none : (n o : ℕ) → queue 256 n o [] ≡ []
