@@ -83,7 +83,7 @@ pub fn run(folder: &Path, slots: usize) -> Result<()> {
         std::fs::write(&file, &stream)?;
         let want = answers(&mut *Which::PlainIdeal.new().expect("a plain box"), &stream);
         for (name, which) in PROGRAMS {
-            let program = folder.join("bin").join(name);
+            let program = Path::new("crates").join(name).join("out").join(name);
             let rate = |time: Duration| slots as f64 / time.as_secs_f64();
             let file = rate(best(|| from_file(&program, &file))?);
             let pipes = rate(best(|| through_pipes(&program, &stream, &want))?);

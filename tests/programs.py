@@ -16,6 +16,11 @@ ROOT = os.path.dirname(os.path.dirname(os.path.abspath(__file__)))
 passed = failed = 0
 
 
+def program(name):
+    """Where a program lies when ./run has built it."""
+    return os.path.join(ROOT, "crates", name + "_cli", "out", name + "_cli")
+
+
 def check(what, good):
     global passed, failed
     if good:
@@ -26,7 +31,7 @@ def check(what, good):
 
 
 def run(name, args=(), data=b"", **more):
-    command = [os.path.join(ROOT, "target", "bin", name + "_cli"), *args]
+    command = [program(name), *args]
     if "stdin" not in more:
         more["input"] = data
     if "stdout" not in more:
@@ -51,9 +56,9 @@ def files(name):
     with open("/dev/full", "wb") as full:
         unwritten = run(name, data=b"\0\0", stdout=full)
     check(name + ": an output that can't be written", unwritten.returncode == 1 and b"output" in unwritten.stderr)
-    closed = subprocess.run(["sh", "-c", 'exec "$0" >&-', os.path.join(ROOT, "target", "bin", name + "_cli")], input=b"\0\0", stderr=subprocess.PIPE)
+    closed = subprocess.run(["sh", "-c", 'exec "$0" >&-', program(name)], input=b"\0\0", stderr=subprocess.PIPE)
     check(name + ": a closed output", closed.returncode == 1 and b"output" in closed.stderr)
-    helped = subprocess.run(["sh", "-c", 'exec "$0" --help >&-', os.path.join(ROOT, "target", "bin", name + "_cli")], stderr=subprocess.PIPE)
+    helped = subprocess.run(["sh", "-c", 'exec "$0" --help >&-', program(name)], stderr=subprocess.PIPE)
     check(name + ": --help with a closed output", helped.returncode == 1)
     empty = run(name)
     check(name + ": an empty input", empty.returncode == 0 and empty.stdout == b"" and empty.stderr == b"")
@@ -66,7 +71,7 @@ def same(name, what, data, args=()):
 
 def prompt(name):
     """Answers to all that has come are written before the program waits for more."""
-    p = subprocess.Popen([os.path.join(ROOT, "target", "bin", name + "_cli")], stdin=subprocess.PIPE, stdout=subprocess.PIPE)
+    p = subprocess.Popen([program(name)], stdin=subprocess.PIPE, stdout=subprocess.PIPE)
     words = [b"\1\3", b"\2\xff\xff\xff", b"\2" + b"\1" + bytes(64) + b"\xff\xff", b"", b"\2\xff"]
     box, good = model.Ideal(), True
     for word in words:
