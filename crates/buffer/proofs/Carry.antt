@@ -1,13 +1,13 @@
 -- Carrying a cell from one row into another: the memory stays sound, the one row lacks the cell, the other has it behind its first j,
 -- and the other rows hold what they held.
-use Rattle.std.proofs.Common.{◌≡◌, ℕ, zero, suc, ◌+◌, ◌-◌, ◌*◌, ◌<◌, ◌≤◌, List, [], ◌∷◌, ◌++◌, map, length, get_or, take, drop, set, sym, refl, ap, ◌∙◌, subst, arith}
+use Rattle.std.proofs.Common.{◌≡◌, ℕ, ◌+◌, ◌-◌, ◌*◌, ◌<◌, ◌≤◌, List, [], ◌++◌, length, get_or, take, drop, set, sym, ap, ◌∙◌, subst, arith}
 use Rattle.std.specs.List.{AllByRecursion, insert, remove as removed}
-use Rattle.std.proofs.lemmas.List.{length-set, set-set, set-get_or, get_or-set_same, get_or-set_other, take-set, length-take-le, length-drop}
+use Rattle.std.proofs.lemmas.List.{set-set, set-get_or, get_or-set_same, get_or-set_other, take-set, length-take-le, length-drop}
 use Rattle.crossbox.specs.declared.Cell.{Cell}
 use Rattle.buffer.specs.declared.Head.{Head}
 use Rattle.buffer.specs.Head.{vacant, head_of, cell_of}
 use Rattle.buffer.specs.Rows.{moved_up, moved_down, edited}
-use Rattle.buffer.specs.Memory.{Mem, Held, held_at, held, head_at, Sound, Owned, Distinct, row_length, row, place_at, next, put, remove, carry}
+use Rattle.buffer.specs.Memory.{Mem, Held, held_at, held, head_at, Sound, Owned, Distinct, row_length, place_at, next, put, remove, carry}
 use Rattle.buffer.proofs.Safety.{row_few, row_end}
 use Rattle.buffer.proofs.Parts.{length-edited, length_down}
 use Rattle.buffer.proofs.Put.{put_sound, put-held, put-held_other}

@@ -1,11 +1,11 @@
 -- What the operations leave, in the shapes in which the code leaves it.
-use Rattle.std.proofs.Common.{◌≡◌, ℕ, zero, suc, ◌+◌, ◌-◌, ◌*◌, ◌<◌, ◌≤◌, List, [], ◌∷◌, ◌++◌, length, get_or, take, drop, set, replicate, sym, refl, ap, ◌∙◌, arith}
+use Rattle.std.proofs.Common.{◌≡◌, ℕ, ◌+◌, ◌-◌, ◌*◌, ◌≤◌, List, ◌++◌, length, get_or, take, drop, set, replicate, ◌∙◌, arith}
 use Rattle.std.specs.List.{range_with_len}
 use Rattle.std.proofs.lemmas.List.{length-take-le}
 use Rattle.crossbox.specs.declared.Cell.{Cell}
 use Rattle.buffer.specs.declared.Head.{Head}
 use Rattle.buffer.specs.Head.{vacant, head_of}
-use Rattle.buffer.specs.Rows.{moved_up, moved_down, edited}
+use Rattle.buffer.specs.Rows.{moved_up, moved_down}
 use Rattle.buffer.specs.Memory.{Mem, row_length, put, remove, reset, place_at}
 
 module _ (m : Mem) (r k : ℕ) (free : ℕ) (part : List ℕ) where

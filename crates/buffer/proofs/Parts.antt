@@ -1,8 +1,7 @@
 -- A row after a part of it was moved by one, and what lies beside it.
-use Rattle.std.proofs.Common.{◌≡◌, ℕ, zero, suc, ◌+◌, ◌-◌, ◌*◌, ◌<◌, ◌≤◌, List, [], ◌∷◌, ◌++◌, length, get_or, take, drop, set, sym, refl, ap, ◌∙◌, add-one, arith, rules}
+use Rattle.std.proofs.Common.{◌≡◌, ℕ, suc, ◌+◌, ◌-◌, ◌<◌, ◌≤◌, List, ◌++◌, length, take, drop, sym, refl, ap, ◌∙◌, add-one, arith, rules}
 use Rattle.std.specs.List.{insert, remove}
-use Rattle.std.proofs.lemmas.List.{places, same_lists, length-take, length-drop, length-append, drop-append-le, drop-take, drop-drop, take-take, take-append-le, take_at, length-take-le}
-use Rattle.std.proofs.lemmas.Slice.{overwrites}
+use Rattle.std.proofs.lemmas.List.{places, same_lists, length-take, length-drop, length-append, take-take, take_at}
 use Rattle.buffer.specs.Rows.{moved_up, moved_down, edited}
 
 pub length_up : (x : ℕ) (xs : List ℕ) → length (moved_up x xs) ≡ length xs

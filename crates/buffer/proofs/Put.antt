@@ -1,7 +1,7 @@
 -- Putting a cell into a row: the memory stays sound, the row gets the cell behind its first k, and the other rows hold what they held.
-use Rattle.std.proofs.Common.{◌≡◌, ℕ, zero, suc, ◌+◌, ◌-◌, ◌*◌, ◌<◌, ◌≤◌, ◌⊎◌, List, [], ◌∷◌, ◌++◌, map, length, get_or, take, drop, set, sum, sym, refl, ap, ◌∙◌, subst, inl, inr, mul-le-mul_right, suc-mul, arith}
+use Rattle.std.proofs.Common.{◌≡◌, ℕ, zero, suc, ◌+◌, ◌-◌, ◌*◌, ◌<◌, ◌≤◌, ◌⊎◌, List, [], ◌∷◌, ◌++◌, map, length, take, drop, sym, refl, ap, ◌∙◌, subst, inl, inr, mul-le-mul_right, suc-mul, arith}
 use Rattle.std.specs.List.{AllByRecursion, insert}
-use Rattle.std.proofs.lemmas.List.{length-set, length-take, length-drop, get_or-take, get_or-set_same, get_or-set_other, take_more, map-append, take-take, length-take-le}
+use Rattle.std.proofs.lemmas.List.{length-set, length-take, length-drop, get_or-take, get_or-set_same, get_or-set_other, take_more, take-take, length-take-le}
 use Rattle.std.proofs.ByRecursion.{All-weaker, All-get_or, All-take}
 use Rattle.std.proofs.lemmas.List.Sums.{sum_by-set}
 use Rattle.std.proofs.lemmas.Bool.{cases_order, cases_eq}
@@ -10,7 +10,7 @@ use Rattle.buffer.specs.declared.Head.{Head}
 use Rattle.buffer.specs.Head.{head_of, cell_of, vacant}
 use Rattle.buffer.specs.Rows.{moved_up, edited}
 use Rattle.buffer.specs.Memory.{Mem, Held, held_at, held, head_at, Sound, Owned, Distinct, row_length, row, next, put}
-use Rattle.buffer.proofs.Safety.{row_end, row_few, next_in, row-length}
+use Rattle.buffer.proofs.Safety.{row_end, next_in}
 use Rattle.buffer.proofs.Parts.{edited_below, edited_above, length-edited, length_up, row_up}
 use Rattle.buffer.proofs.Distinct.{Lacks, all_inserted, all_both, distinct_inserted, distinct-take, distinct_last}
 

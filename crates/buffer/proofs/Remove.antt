@@ -1,5 +1,5 @@
 -- Letting a cell go: the memory stays sound, the row lacks that cell, and the other rows hold what they held.
-use Rattle.std.proofs.Common.{◌≡◌, ℕ, zero, suc, ◌+◌, ◌-◌, ◌*◌, ◌<◌, ◌≤◌, List, [], ◌∷◌, ◌++◌, map, length, get_or, take, drop, set, sum, sym, refl, ap, ◌∙◌, subst, inl, inr, arith}
+use Rattle.std.proofs.Common.{◌≡◌, ℕ, suc, ◌+◌, ◌-◌, ◌*◌, ◌<◌, ◌≤◌, List, [], ◌∷◌, ◌++◌, map, length, take, drop, sym, refl, ap, ◌∙◌, subst, inl, inr, arith}
 use Rattle.std.specs.List.{AllByRecursion, remove as removed}
 use Rattle.std.proofs.lemmas.List.{length-set, length-drop, get_or-set_same, get_or-set_other, take_more_set, length-take-le, map-append, take-map, drop-map}
 use Rattle.std.proofs.ByRecursion.{All-weaker, All-get_or, All-append}
@@ -8,7 +8,7 @@ use Rattle.std.proofs.lemmas.Bool.{cases_eq}
 use Rattle.buffer.specs.declared.Head.{Head}
 use Rattle.buffer.specs.Head.{vacant}
 use Rattle.buffer.specs.Rows.{moved_down}
-use Rattle.buffer.specs.Memory.{Mem, Held, held_at, held, head_at, Sound, Owned, Distinct, row_length, row, place_at, remove}
+use Rattle.buffer.specs.Memory.{Mem, held_at, held, head_at, Sound, Owned, Distinct, row_length, row, place_at, remove}
 use Rattle.buffer.proofs.Safety.{row_end, row_few, row-length, row_at, place_in}
 use Rattle.buffer.proofs.Parts.{length-edited, length_down, row_down}
 use Rattle.buffer.proofs.Distinct.{Lacks, all_removed, all_both, distinct_removed, removed_lacks, distinct_push}

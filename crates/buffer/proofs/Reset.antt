@@ -1,5 +1,5 @@
 -- A memory that was made empty is sound, and so is a fresh one.
-use Rattle.std.proofs.Common.{◌≡◌, ℕ, zero, suc, ◌+◌, ◌-◌, ◌*◌, ◌<◌, ◌≤◌, Bool, true, false, ◌&&◌, leb, List, [], ◌∷◌, ◌++◌, map, length, get_or, take, drop, set, replicate, sum, sym, refl, ap, ◌∙◌, subst, add-one, arith}
+use Rattle.std.proofs.Common.{◌≡◌, ℕ, zero, suc, ◌+◌, ◌*◌, ◌<◌, ◌≤◌, true, leb, List, [], length, take, drop, replicate, sum, sym, refl, ap, ◌∙◌, subst, arith}
 use Rattle.std.specs.List.{range_with_len, AllByRecursion}
 use Rattle.std.proofs.lemmas.List.{length-replicate, length-append, length-drop, get_or-replicate, get_or_append_left, take_at}
 use Rattle.std.proofs.ByRecursion.{All-weaker}
@@ -8,7 +8,7 @@ use Rattle.std.proofs.lemmas.List.Sums.{sum_by-cons}
 use Rattle.std.proofs.lemmas.Bool.{and_parts, leb-true}
 use Rattle.buffer.specs.declared.Head.{Head}
 use Rattle.buffer.specs.Head.{vacant}
-use Rattle.buffer.specs.Memory.{Mem, Held, held_at, held, head_at, Sound, Owned, Distinct, row_length, row, reset, fresh, enough}
+use Rattle.buffer.specs.Memory.{Mem, Sound, Owned, Distinct, row_length, row, reset, fresh, enough}
 
 sum_zeros : (n : ℕ) → sum (replicate n 0) ≡ 0
 sum_zeros zero = refl

@@ -1,7 +1,7 @@
 -- No operation touches what lies beyond the places in use and the rows in use, and none reads it.
-use Rattle.std.proofs.Common.{◌≡◌, ℕ, zero, suc, ◌+◌, ◌-◌, ◌*◌, ◌<◌, ◌≤◌, List, [], ◌∷◌, ◌++◌, length, get_or, take, drop, set, replicate, sym, refl, ap, ◌∙◌, subst, arith, rules}
+use Rattle.std.proofs.Common.{◌≡◌, ℕ, zero, suc, ◌+◌, ◌-◌, ◌*◌, ◌<◌, ◌≤◌, List, [], ◌∷◌, ◌++◌, length, take, drop, set, replicate, sym, refl, ap, ◌∙◌, arith}
 use Rattle.std.specs.List.{range_with_len}
-use Rattle.std.proofs.lemmas.List.{places, same_lists, drop-set-lt, get_or-take, length-take, length-drop, length-append, length-replicate, take_at, drop_at, take_all, append-nil, drop_all}
+use Rattle.std.proofs.lemmas.List.{places, same_lists, drop-set-lt, get_or-take, length-take, length-drop, length-append, length-replicate, take_at, drop_at, append-nil, drop_all}
 use Rattle.std.proofs.lemmas.List.FromFn.{length-range_with_len}
 use Rattle.crossbox.specs.declared.Cell.{Cell}
 use Rattle.buffer.specs.declared.Head.{Head}
@@ -9,7 +9,7 @@ use Rattle.buffer.specs.Head.{vacant, head_of}
 use Rattle.buffer.specs.Rows.{moved_up, moved_down, edited}
 use Rattle.buffer.specs.Memory.{Mem, Sound, row_length, next, put, place_at, remove, reset}
 use Rattle.buffer.specs.Lent.{Lent, lent_to, beyond, within}
-use Rattle.buffer.proofs.Safety.{row_end, row_few, next_in, place_in, within_rows}
+use Rattle.buffer.proofs.Safety.{row_end, row_few, next_in, place_in}
 use Rattle.buffer.proofs.Parts.{edited_above, length_up, length_down}
 
 -- lists that are alike are lent alike

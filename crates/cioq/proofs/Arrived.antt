@@ -1,16 +1,16 @@
 -- Arrivals against the model: memory that spells a box spells, after the first k inputs, the box to which these have arrived.
-use Rattle.std.proofs.Common.{◌≡◌, ℕ, zero, suc, ◌+◌, ◌-◌, ◌*◌, ◌<◌, ◌≤◌, min, Bool, true, false, cond, not, ◌&&◌, eqb, ltb, List, [], ◌∷◌, map, length, get_or, set, sym, refl, ap, ◌∙◌, subst, inl, inr, arith}
+use Rattle.std.proofs.Common.{◌≡◌, ℕ, zero, suc, ◌+◌, ◌<◌, ◌≤◌, min, Bool, true, false, cond, not, ◌&&◌, eqb, ltb, List, map, length, get_or, sym, refl, ap, ◌∙◌, subst, inl, inr, arith}
 use Rattle.std.specs.List.{insert}
 use Rattle.std.proofs.lemmas.List.{get_or-set_same, get_or-set_other}
-use Rattle.std.proofs.lemmas.Bool.{cases_eq, cond_both, cases_Bool, ltb-true}
+use Rattle.std.proofs.lemmas.Bool.{cases_eq, cond_both}
 use Rattle.std.proofs.lemmas.Bool.Decides.{nat_tests}
 use Rattle.crossbox.specs.declared.Arrival.{Arrival}
 use Rattle.crossbox.specs.declared.Arrival.TheVariants.{Nothing, For}
 use Rattle.crossbox.specs.declared.Cell.{Cell}
 use Rattle.crossbox.specs.Cells.{Arrivals}
-use Rattle.crossbox.specs.Box.{Box, held_for, one_if, taken_for, room_for, taken, arriving, arrive}
+use Rattle.crossbox.specs.Box.{Box, held_for, one_if, taken_for, room_for, taken, arriving}
 use Rattle.crossbox.proofs.Held.{held-arriving}
-use Rattle.buffer.specs.Memory.{Mem, Held, held, Sound, row_length, put}
+use Rattle.buffer.specs.Memory.{Held, held, row_length}
 use Rattle.buffer.proofs.Put.{put-held, put-held_other, map_inserted}
 use Rattle.words.specs.Lines.{no_line, Line}
 use Rattle.cioq.specs.State.{State, Good, count_of}

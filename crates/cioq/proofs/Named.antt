@@ -1,7 +1,7 @@
 -- The cells that a choice names: where they stand, and that each list loses its own.
-use Rattle.std.proofs.Common.{◌≡◌, ℕ, zero, suc, ◌+◌, ◌-◌, ◌<◌, ◌≤◌, Bool, true, false, cond, not, ◌&&◌, ◌||◌, eqb, ltb, ◌⊎◌, List, [], ◌∷◌, ◌++◌, length, get_or, Some, None, Option, sym, refl, ap, ◌∙◌, subst, inl, inr, arith}
+use Rattle.std.proofs.Common.{◌≡◌, ℕ, zero, suc, ◌<◌, Bool, true, false, cond, ◌||◌, eqb, List, [], ◌∷◌, length, get_or, Some, None, Option, sym, refl, ap, ◌∙◌, subst, inl, inr, arith}
 use Rattle.std.specs.List.{remove}
-use Rattle.std.proofs.lemmas.Bool.{cases_Bool, eqb-true, and_parts, or_cases}
+use Rattle.std.proofs.lemmas.Bool.{cases_Bool, eqb-true, or_cases}
 use Rattle.std.proofs.lemmas.Bool.Decides.{nat_tests}
 use Rattle.crossbox.specs.declared.Arrival.{Arrival}
 use Rattle.crossbox.specs.declared.Arrival.TheVariants.{Nothing, For}
@@ -9,10 +9,10 @@ use Rattle.crossbox.specs.declared.Cell.{Cell}
 use Rattle.crossbox.specs.Cells.{Arrivals, same, is_in}
 use Rattle.crossbox.specs.Ideal.{first}
 use Rattle.crossbox.specs.Box.{Box, for_output, without_all}
-use Rattle.crossbox.proofs.Cells.{same_eq, same_refl, same_sym}
+use Rattle.crossbox.proofs.Cells.{same_eq, same_refl}
 use Rattle.crossbox.proofs.Lists.{is_in-same, distinct}
 use Rattle.crossbox.proofs.Asking.{some_eq, some-none}
-use Rattle.cioq.specs.Choice.{first_for, named, also, picks, waits_in, all_wait, is_named, named_before, is_new, one_output}
+use Rattle.cioq.specs.Choice.{first_for, named, also, picks, is_named, named_before}
 use Rattle.cioq.specs.Transfers.{position}
 
 -- a list's first cell for an output stands at its position

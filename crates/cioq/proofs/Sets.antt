@@ -1,8 +1,8 @@
 -- Laws of bits: what setting one does.
-use Rattle.std.proofs.Common.{◌≡◌, ℕ, zero, suc, ◌+◌, ◌*◌, ◌/◌, ◌%◌, ◌^◌, ◌<◌, true, false, ◌||◌, eqb, sym, refl, ap, ◌∙◌, pow-suc, div-one, one-add, arith}
+use Rattle.std.proofs.Common.{◌≡◌, ℕ, zero, suc, ◌/◌, ◌%◌, ◌^◌, ◌<◌, false, ◌||◌, eqb, sym, refl, ap, ◌∙◌, pow-suc, div-one, one-add, arith}
 use native.Mathlib.Nat.{zero-div}
-use lib.Bits.{bit_and, bit_or}
-use Rattle.std.proofs.lemmas.Nat.{shr-shr, or_shr, or_mod, and_mask, mod_below}
+use lib.Bits.{bit_or}
+use Rattle.std.proofs.lemmas.Nat.{shr-shr, or_shr, or_mod, mod_below}
 use Rattle.std.proofs.lemmas.Bool.Decides.{nat_tests}
 use Rattle.cioq.specs.Bits.{is_set}
 

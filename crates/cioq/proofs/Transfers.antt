@@ -1,8 +1,8 @@
 -- Transfers in memory: a good box stays good, and a list is as it was until its input's turn.
-use Rattle.std.proofs.Common.{◌≡◌, ℕ, zero, suc, ◌+◌, ◌-◌, ◌*◌, ◌<◌, ◌≤◌, Bool, true, false, cond, ◌&&◌, eqb, ltb, List, [], ◌∷◌, map, length, get_or, set, sym, refl, ap, ◌∙◌, subst, inl, inr, add-one, arith}
+use Rattle.std.proofs.Common.{◌≡◌, ℕ, zero, suc, ◌+◌, ◌<◌, ◌≤◌, true, ltb, List, [], ◌∷◌, map, length, sym, refl, ap, ◌∙◌, subst, inl, inr, add-one, arith}
 use Rattle.std.specs.List.{insert, remove}
 use Rattle.std.proofs.lemmas.List.{length-set}
-use Rattle.std.proofs.lemmas.Bool.{cases_eq, and_parts, ltb-true}
+use Rattle.std.proofs.lemmas.Bool.{cases_eq, and_parts}
 use Rattle.std.proofs.lemmas.Bool.Decides.{nat_tests}
 use Rattle.crossbox.specs.declared.Arrival.{Arrival}
 use Rattle.crossbox.specs.declared.Arrival.TheVariants.{Nothing, For}
@@ -10,9 +10,9 @@ use Rattle.crossbox.specs.declared.Cell.{Cell}
 use Rattle.crossbox.specs.Cells.{Arrivals}
 use Rattle.crossbox.specs.Box.{Box, for_output}
 use Rattle.crossbox.specs.Promise.{Fits}
-use Rattle.buffer.specs.Memory.{Mem, Held, held, held_at, place_at, row_length}
+use Rattle.buffer.specs.Memory.{Held, held, held_at, place_at, row_length}
 use Rattle.buffer.proofs.Carry.{carry_sound, carry-held_from, carry-held_to, carry-held_other}
-use Rattle.cioq.specs.State.{State, Good, count_of}
+use Rattle.cioq.specs.State.{State, Good}
 use Rattle.cioq.specs.Spells.{cells, box_of}
 use Rattle.cioq.specs.Choice.{waits_in, all_wait}
 use Rattle.cioq.specs.Transfers.{position, Sends, place_for, cell_at, sent, transfer_one, transfer_all}

@@ -1,8 +1,7 @@
 -- The plain machine has the queues of the definitions.
 use Rattle.std.proofs.Common.{◌≡◌, ℕ, suc, List, [], ◌∷◌, length, refl, ap}
-use Rattle.crossbox.specs.declared.Cell.{Cell}
 use Rattle.crossbox.specs.Cells.{Arrivals}
-use Rattle.crossbox.specs.Ideal.{admitted, rest, queue}
+use Rattle.crossbox.specs.Ideal.{queue}
 use Rattle.crossbox.specs.Machine.{run, MachineIsQueues}
 
 run-now : (room n : ℕ) (past : List Arrivals) → (run room n past).now ≡ length past

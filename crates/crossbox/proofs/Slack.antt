@@ -5,7 +5,7 @@ use Rattle.crossbox.specs.declared.Arrival.{Arrival}
 use Rattle.crossbox.specs.declared.Arrival.TheVariants.{Nothing, For}
 use Rattle.crossbox.specs.declared.Cell.{Cell}
 use Rattle.crossbox.specs.Cells.{Arrivals, same, is_in, ahead, count_earlier}
-use Rattle.crossbox.specs.Box.{Box, put_at, taken, arriving, room_for, without_all, for_output, less}
+use Rattle.crossbox.specs.Box.{Box, put_at, taken, arriving, room_for, without_all, for_output}
 use Rattle.crossbox.specs.Shape.{StoredBefore}
 use Rattle.crossbox.specs.Slack.{Slack, ArriveSlack, TransferSlack, DepartSlack}
 use Rattle.crossbox.proofs.Cells.{same_eq, earlier_slot}

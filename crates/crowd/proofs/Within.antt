@@ -1,7 +1,7 @@
 -- The real box against the model, step by step within a slot.
-use Rattle.std.proofs.Common.{◌≡◌, ℕ, zero, suc, ◌+◌, ◌<◌, ◌≤◌, Bool, true, false, not, ◌&&◌, ◌⊎◌, List, [], ◌∷◌, map, length, get_or, Some, Ok, Err, sym, refl, ap, ◌∙◌, subst, inl, inr, arith}
+use Rattle.std.proofs.Common.{◌≡◌, ℕ, ◌<◌, Bool, true, not, ◌⊎◌, List, ◌∷◌, map, length, get_or, Some, Ok, sym, ◌∙◌, subst, inl, inr, arith}
 use Rattle.std.specs.List.{range_with_len}
-use Rattle.words.specs.Answer.{Departure, leaving_all}
+use Rattle.words.specs.Answer.{leaving_all}
 use Rattle.std.proofs.lemmas.List.{length-map}
 use Rattle.crossbox.specs.declared.Arrival.TheVariants.{For}
 use Rattle.crossbox.specs.declared.Cell.{Cell}

@@ -1,10 +1,10 @@
 -- The answer to a first choice, as it is written.
-use Rattle.std.proofs.Common.{◌≡◌, ℕ, ◌+◌, ◌≤◌, Bool, List, [], ◌∷◌, ◌++◌, length, take, sym, refl, ap, ◌∙◌, subst, arith}
+use Rattle.std.proofs.Common.{◌≡◌, ℕ, ◌+◌, List, [], ◌∷◌, ◌++◌, length, take, sym, ap, ◌∙◌, subst, arith}
 use Rattle.std.proofs.lemmas.List.{append-nil}
 use Rattle.crossbox.specs.Cells.{Arrivals}
 use Rattle.words.specs.Lines.{Line}
 use Rattle.words.specs.Writing.{overwrite}
-use Rattle.words.specs.Answer.{Departure, Written, leaving_all, flag_bytes, answer_bytes}
+use Rattle.words.specs.Answer.{Written, leaving_all, flag_bytes}
 use Rattle.words.proofs.Overwrites.{written_then}
 use Rattle.cioq.specs.State as real
 use Rattle.cioq.specs.Arrivals.{arrivals_of}

@@ -1,16 +1,13 @@
 -- The lists of the real box, gone through cell by cell.
-use Rattle.std.proofs.Common.{◌≡◌, ℕ, zero, suc, ◌+◌, ◌<◌, ◌≤◌, Bool, true, false, cond, ◌||◌, eqb, ltb, ◌⊎◌, List, [], ◌∷◌, ◌++◌, length, get_or, take, sym, refl, ap, ◌∙◌, subst, inl, inr, arith}
-use Rattle.std.proofs.lemmas.List.{take_more, take_all, length-take-le, nil_from_length}
+use Rattle.std.proofs.Common.{◌≡◌, ℕ, zero, suc, ◌+◌, ◌<◌, ◌≤◌, Bool, true, ◌||◌, eqb, ltb, List, [], ◌∷◌, ◌++◌, length, get_or, take, sym, refl, ap, ◌∙◌, subst, inl, inr, arith}
+use Rattle.std.proofs.lemmas.List.{take_more, take_all, length-take-le}
 use Rattle.std.proofs.ByRecursion.{All-get_or}
 use Rattle.std.proofs.lemmas.Bool.{cases_order, cond-true, cond-false, eq-eqb, ne_eqb, lt-ltb, le-ltb}
 use Rattle.crossbox.specs.declared.Cell.{Cell}
 use Rattle.crossbox.specs.Cells.{is_in}
 use Rattle.crossbox.specs.Box.{Box}
-use Rattle.crossbox.specs.Shape.{WellPlaced}
 use Rattle.crossbox.proofs.Cells.{same_refl}
-use Rattle.matching.specs.declared.Firsts.{Firsts}
-use Rattle.matching.specs.Making.{TableOf, grown}
-use Rattle.matching.proofs.Making.{table_alike}
+use Rattle.matching.specs.Making.{grown}
 use Rattle.cioq.specs.State.{State, Good, Aimed}
 use Rattle.cioq.specs.Spells.{cells}
 use Rattle.cioq.proofs.Lists.{cells-length}

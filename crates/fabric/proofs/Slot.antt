@@ -1,24 +1,22 @@
 -- A slot of the real box: the steps follow one another, and what comes of them is what the ideal box does.
-use Rattle.std.proofs.Common.{◌≡◌, ℕ, zero, suc, ◌+◌, ◌*◌, ◌<◌, ◌≤◌, Bool, true, false, cond, not, ◌&&◌, ltb, ◌⊎◌, List, [], ◌∷◌, map, length, get_or, take, Ok, sym, refl, ap, ◌∙◌, subst, inl, inr, ⊎_elim, arith}
+use Rattle.std.proofs.Common.{◌≡◌, ℕ, suc, ◌+◌, ◌*◌, ◌<◌, Bool, true, false, not, ◌&&◌, ltb, ◌⊎◌, List, [], ◌∷◌, map, length, get_or, take, Ok, sym, refl, ap, ◌∙◌, subst, inl, inr, ⊎_elim, arith}
 use Rattle.std.specs.List.{range_with_len}
 use Rattle.std.proofs.lemmas.List.{length-map}
 use Rattle.std.proofs.lemmas.Bool.{lt-ltb}
-use Rattle.crossbox.specs.declared.Arrival.{Arrival}
 use Rattle.crossbox.specs.declared.Arrival.TheVariants.{For}
-use Rattle.crossbox.specs.declared.Cell.{Cell}
 use Rattle.crossbox.specs.Cells.{Arrivals}
 use Rattle.crossbox.specs.Ideal.{departure, rejected}
-use Rattle.crossbox.specs.Box.{Box, Run, Stable, arrive, arrived, departed, transfer, depart, room_for}
+use Rattle.crossbox.specs.Box.{Box, Run, Stable, arrive, arrived, depart}
 use Rattle.crossbox.specs.Matching.{find}
 use Rattle.crossbox.specs.Promise.{Fits, AllFit}
 use Rattle.crossbox.specs.Shape.{InOrder}
 use Rattle.crossbox.proofs.Shape.{Placed, Directed, arriving_directed, transfer_directed}
 use Rattle.crossbox.proofs.Runs.{run_like, run_directed, arrived_like, transferred_like, departed_like, same-departures, same-rejected}
-use Rattle.crossbox.proofs.Promise.{found_in_run, found_in_run_again}
-use Rattle.buffer.specs.Lent.{Lent, lent_to, beyond}
-use Rattle.words.specs.Lines.{Line, no_line, judge, verdict}
+use Rattle.crossbox.proofs.Promise.{found_in_run}
+use Rattle.buffer.specs.Lent.{lent_to, beyond}
+use Rattle.words.specs.Lines.{no_line, judge, verdict}
 use Rattle.words.specs.Writing.{overwrite}
-use Rattle.words.specs.Answer.{Departure, Written, leaving_all}
+use Rattle.words.specs.Answer.{Departure, Written}
 use Rattle.ideal.proofs.Loops.{flags_all}
 use Rattle.matching.specs.declared.Found.{Found}
 use Rattle.matching.specs.Table.{Finds}
@@ -39,7 +37,7 @@ use Rattle.switch.proofs.History.{body_new}
 use Rattle.fabric.specs.Real.{gone, box_after, Runs}
 use Rattle.fabric.specs.Served.{Served}
 use Rattle.fabric.proofs.History.{found-run, spells_on}
-use Rattle.fabric.proofs.Stages.{Stage, stage_tied, stage_aimed, stage_counted, stage_fits, stage_waits, transferred_stage, departed_stage, stage_bytes, brings_fit, bytes_are, departures_written}
+use Rattle.fabric.proofs.Stages.{Stage, stage_counted, stage_fits, stage_waits, transferred_stage, departed_stage, stage_bytes, brings_fit, bytes_are, departures_written}
 
 -- goodness does not depend on the number of slots
 any_time : (s : State) → Good s → Good (passed s)

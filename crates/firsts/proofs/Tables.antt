@@ -1,9 +1,9 @@
 -- The table of first cells stays one as cells are put into lists and taken out of them.
-use Rattle.std.proofs.Common.{◌≡◌, ℕ, zero, suc, ◌+◌, ◌-◌, ◌*◌, ◌^◌, ◌<◌, ◌≤◌, min, Bool, true, false, cond, not, ◌&&◌, ◌||◌, eqb, ltb, leb, List, [], ◌∷◌, ◌++◌, map, length, get_or, take, drop, set, replicate, Some, None, Option, sym, refl, ap, ◌∙◌, subst, inl, inr, arith}
+use Rattle.std.proofs.Common.{◌≡◌, ℕ, zero, suc, ◌+◌, ◌-◌, ◌*◌, ◌^◌, ◌<◌, ◌≤◌, Bool, true, false, not, ◌&&◌, ◌||◌, eqb, ltb, List, [], ◌∷◌, ◌++◌, map, length, get_or, take, drop, Some, None, Option, sym, refl, ap, ◌∙◌, subst, inl, inr, arith}
 use lib.Bits.{bit_or, bit_xor}
 use Rattle.std.specs.List.{insert, remove}
 use Rattle.std.proofs.lemmas.List.Edits.{length-insert, get_or-insert_below, get_or-insert_at, get_or-insert_above, length-remove, get_or-remove_below, get_or-remove_above}
-use Rattle.std.proofs.lemmas.List.{places, length-append, length-map, length-take, length-drop, length-set, length-replicate, get_or-map, get_or-take, get_or-drop, get_or_append_left, get_or-append_right, get_or-set_same, get_or-set_other, get_or-replicate}
+use Rattle.std.proofs.lemmas.List.{length-append, length-map, length-take, length-drop, length-set, length-replicate, get_or-map, get_or-take, get_or-drop, get_or_append_left, get_or-append_right, get_or-set_same, get_or-set_other, get_or-replicate}
 use Rattle.std.proofs.lemmas.Bool.{cases_Bool, cases_eq, cases_lt, cases_order, cond-true, cond-false, cond_both, eq-eqb, ne_eqb, ltb-true, lt-ltb, and_parts}
 use Rattle.std.proofs.lemmas.Bool.Decides.{nat_tests}
 use Rattle.crossbox.specs.declared.Cell.{Cell}
@@ -12,7 +12,7 @@ use Rattle.bits.proofs.Sets.{none-set, with_is, without_is}
 use Rattle.firsts.specs.declared.Firsts.{Firsts}
 use Rattle.firsts.specs.declared.First.{First}
 use Rattle.firsts.specs.Firsts.{position, slot_at, first_of, TableOf, none, moved, later, sooner, noted, unnoted, stands, after_insert, after_remove}
-use Rattle.firsts.proofs.Positions.{position_le, insert_own, insert_other, remove_own, remove_other, apart}
+use Rattle.firsts.proofs.Positions.{position_le, insert_own, insert_other, remove_other, apart}
 
 -- how long the lists of a table are
 abbrev Long : Firsts → Type 0

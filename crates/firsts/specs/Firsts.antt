@@ -1,5 +1,5 @@
 -- The table of the first cell of each pair, and what it is after a list has changed. Assumes nothing.
-use Rattle.std.specs.Prelude.{◌≡◌, ℕ, zero, suc, ◌+◌, ◌-◌, ◌*◌, ◌^◌, ◌<◌, min, Bool, true, cond, ◌&&◌, List, [], ◌∷◌, ◌++◌, map, length, take, drop, replicate, Some, None, Option, ◌==◌, bit_or, bit_xor, nat_le, nat_lt, slice_index, slice_set}
+use Rattle.std.specs.Prelude.{◌≡◌, ℕ, suc, ◌+◌, ◌-◌, ◌*◌, ◌^◌, ◌<◌, min, Bool, cond, ◌&&◌, List, [], ◌∷◌, ◌++◌, map, length, take, drop, replicate, Some, None, Option, ◌==◌, bit_or, bit_xor, nat_le, nat_lt, slice_index, slice_set}
 use Rattle.crossbox.specs.declared.Cell.{Cell}
 use Rattle.bits.specs.Bits.{is_set}
 use Rattle.firsts.specs.declared.Firsts.{Firsts}

@@ -1,13 +1,13 @@
 -- Each step of a slot keeps the box good.
-use Rattle.std.proofs.Common.{◌≡◌, ℕ, zero, suc, ◌+◌, ◌-◌, ◌*◌, ◌<◌, ◌≤◌, Bool, true, false, cond, eqb, ltb, ◌⊎◌, List, [], length, get_or, set, Some, None, sym, refl, ap, ◌∙◌, subst, inl, inr, arith}
+use Rattle.std.proofs.Common.{◌≡◌, ℕ, zero, suc, ◌+◌, ◌-◌, ◌*◌, ◌<◌, ◌≤◌, Bool, true, false, cond, eqb, ltb, List, length, get_or, sym, refl, ◌∙◌, subst, inl, inr, arith}
 use Rattle.std.proofs.lemmas.List.{length-set, get_or-set_other, get_or-replicate, length-append, length-replicate, length-drop}
 use Rattle.std.proofs.lemmas.List.FromFn.{length-range_with_len}
-use Rattle.std.proofs.lemmas.Bool.{cases_Bool, ltb-true, eqb-false, cond-true, cond-false}
+use Rattle.std.proofs.lemmas.Bool.{cases_Bool, ltb-true, eqb-false}
 use Rattle.crossbox.specs.declared.Arrival.{Arrival}
 use Rattle.crossbox.specs.declared.Arrival.TheVariants.{Nothing, For}
 use Rattle.crossbox.specs.declared.Cell.{Cell}
 use Rattle.buffer.specs.declared.Head.{Head}
-use Rattle.buffer.specs.Memory.{Mem, Sound, row_length, put, remove, fresh, enough}
+use Rattle.buffer.specs.Memory.{Mem, row_length, put, remove, fresh, enough}
 use Rattle.buffer.proofs.Put.{put_sound}
 use Rattle.buffer.proofs.Remove.{remove_sound}
 use Rattle.buffer.proofs.Reset.{reset_sound, fresh_sound, lent_enough_lem}
@@ -15,7 +15,7 @@ use Rattle.words.specs.Lines.{Line, no_line, fits}
 use Rattle.words.specs.Spelling.{Formed}
 use Rattle.words.proofs.Lines.{lines-length, lines_formed, formed_at, fits_at}
 use Rattle.ideal.specs.State.{State, Good, unset, begun}
-use Rattle.ideal.specs.Steps.{Brings, Reads, lines_of, admit_in, admit_one, admit_all, admitted, depart_one, departing, depart_all}
+use Rattle.ideal.specs.Steps.{Brings, Reads, lines_of, admit_in, admit_all, depart_one, depart_all}
 use Rattle.ideal.proofs.Room.{place_left}
 
 -- a box with another memory of the same lines

@@ -1,21 +1,20 @@
 -- A slot stays within what the settings need, and changes a place's bytes only where it puts a cell.
-use Rattle.std.proofs.Common.{◌≡◌, ℕ, zero, suc, ◌+◌, ◌-◌, ◌*◌, ◌<◌, ◌≤◌, Bool, true, false, cond, not, eqb, ltb, ◌⊎◌, List, [], ◌∷◌, length, get_or, set, sym, refl, ap, ◌∙◌, subst, inl, inr, ⊎_elim, mul-le-mul_right, suc-mul, arith}
+use Rattle.std.proofs.Common.{◌≡◌, ℕ, zero, suc, ◌+◌, ◌*◌, ◌<◌, ◌≤◌, Bool, true, false, cond, not, eqb, ltb, ◌⊎◌, List, [], length, get_or, set, sym, refl, ap, ◌∙◌, subst, inl, inr, ⊎_elim, mul-le-mul_right, suc-mul, arith}
 use Rattle.std.proofs.lemmas.List.{get_or-set_same, get_or-set_other}
 use Rattle.std.proofs.lemmas.Bool.{cases_Bool, cases_eq, ltb-true}
 use Rattle.crossbox.specs.declared.Arrival.{Arrival}
 use Rattle.crossbox.specs.declared.Arrival.TheVariants.{Nothing, For}
 use Rattle.crossbox.specs.declared.Cell.{Cell}
 use Rattle.buffer.specs.declared.Head.{Head}
-use Rattle.buffer.specs.Head.{vacant, head_of}
 use Rattle.buffer.specs.Memory.{Mem, head_at, row_length, next, put, remove}
-use Rattle.buffer.specs.Lent.{Lent, lent_to, beyond, within}
+use Rattle.buffer.specs.Lent.{lent_to, beyond, within}
 use Rattle.buffer.proofs.Safety.{next_in}
 use Rattle.buffer.proofs.Put.{next_owned, head_there, head_elsewhere}
 use Rattle.buffer.proofs.Within.{put-beyond, put-within, remove-beyond, remove-within, reset-beyond, reset-within}
 use Rattle.words.specs.Lines.{Line, no_line}
-use Rattle.ideal.specs.State.{State, Good, begun}
-use Rattle.ideal.specs.Steps.{Brings, Reads, lines_of, turned_away, admit_in, admit_all, away, depart_one, depart_all, served}
-use Rattle.ideal.specs.Kept.{cut, PutThere, SlotStaysWithin, SettingsStayWithin, PlacesKept}
+use Rattle.ideal.specs.State.{State, Good}
+use Rattle.ideal.specs.Steps.{Brings, lines_of, turned_away, admit_in, admit_all, depart_one, depart_all}
+use Rattle.ideal.specs.Kept.{PutThere, SlotStaysWithin, SettingsStayWithin, PlacesKept}
 use Rattle.ideal.proofs.Room.{place_left}
 use Rattle.ideal.proofs.Good.{with, Bring, bring_at, reads_bring, admit_all_good, depart_all_good, not-zero}
 

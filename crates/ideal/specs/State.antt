@@ -1,5 +1,5 @@
 -- The ideal box over lent memory, as plain lists and numbers. Assumes nothing.
-use Rattle.std.specs.Prelude.{◌≡◌, ℕ, ◌+◌, ◌*◌, ◌<◌, ◌≤◌, length}
+use Rattle.std.specs.Prelude.{◌≡◌, ℕ, ◌*◌, ◌<◌, ◌≤◌, length}
 use Rattle.buffer.specs.Memory.{Mem, view, Sound, row_length, reset}
 use Rattle.ideal.specs.declared.IdealBox.{IdealBox}
 

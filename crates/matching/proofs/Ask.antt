@@ -1,11 +1,11 @@
 -- Who asks next and for which cell, as the table and the sets tell it.
-use Rattle.std.proofs.Common.{◌≡◌, ℕ, zero, suc, ◌+◌, ◌*◌, ◌<◌, ◌≤◌, true, false, cond, not, get_or, Some, None, Option, sym, refl, ap, ◌∙◌, subst, inl, inr, arith}
+use Rattle.std.proofs.Common.{◌≡◌, ℕ, zero, suc, ◌+◌, ◌*◌, ◌<◌, ◌≤◌, true, false, cond, get_or, Some, None, Option, sym, refl, ap, ◌∙◌, subst, inl, inr, arith}
 use Rattle.std.proofs.lemmas.Bool.{cases_Bool, cases_lt, both_ways, eqb-true, eq-eqb, lt-ltb}
 use Rattle.std.proofs.lemmas.Bool.Decides.{nat_tests}
 use Rattle.crossbox.specs.declared.Cell.{Cell}
 use Rattle.crossbox.specs.Cells.{earlier, same, is_in, earliest}
 use Rattle.crossbox.specs.Box.{Box, for_output}
-use Rattle.crossbox.specs.Matching.{Finding, content, unrefused, wanted, or_else, next_ask, some, Ended}
+use Rattle.crossbox.specs.Matching.{Finding, content, unrefused, wanted, or_else, next_ask, Ended}
 use Rattle.crossbox.proofs.Cells.{same_eq, earlier_other}
 use Rattle.crossbox.proofs.Asking.{earliest_in, earliest-none, earliest_least, content-none, is_in-unrefused, next-ended}
 use Rattle.matching.specs.declared.Firsts.{Firsts}

@@ -1,20 +1,20 @@
 -- The table of first cells in the making: one cell more, and the whole of a box.
-use Rattle.std.proofs.Common.{◌≡◌, ℕ, zero, suc, ◌+◌, ◌*◌, ◌<◌, ◌≤◌, Bool, true, false, cond, not, ◌&&◌, ◌||◌, eqb, ◌⊎◌, List, [], ◌∷◌, ◌++◌, length, get_or, set, replicate, Some, None, Option, sym, refl, ap, ◌∙◌, subst, inl, inr, arith}
+use Rattle.std.proofs.Common.{◌≡◌, ℕ, zero, suc, ◌+◌, ◌*◌, ◌<◌, ◌≤◌, Bool, true, false, cond, ◌||◌, eqb, List, [], ◌∷◌, ◌++◌, length, get_or, set, replicate, Some, Option, sym, refl, ap, ◌∙◌, subst, inl, inr, arith}
 use Rattle.std.proofs.lemmas.List.{append-nil, get_or-set_same, get_or-set_other, length-set}
-use Rattle.std.proofs.lemmas.Bool.{cases_Bool, cases_eq, cond-true, cond-false, eq-eqb, ne_eqb, eqb-true, or_cases}
+use Rattle.std.proofs.lemmas.Bool.{cases_Bool, cases_eq, cond-true, cond-false, eq-eqb, ne_eqb}
 use Rattle.std.proofs.lemmas.Bool.Decides.{nat_tests}
 use Rattle.crossbox.specs.declared.Cell.{Cell}
 use Rattle.crossbox.specs.Cells.{ahead, same, is_in}
 use Rattle.crossbox.specs.Ideal.{first}
 use Rattle.crossbox.specs.Box.{Box, for_output}
-use Rattle.crossbox.specs.Matching.{some, waits_at}
+use Rattle.crossbox.specs.Matching.{some}
 use Rattle.crossbox.specs.Shape.{WellPlaced, InOrder}
 use Rattle.matching.specs.declared.Firsts.{Firsts}
 use Rattle.matching.specs.Bits.{is_set}
 use Rattle.matching.specs.Table.{Ties, first_for}
 use Rattle.matching.specs.Making.{TableOf, grown}
 use Rattle.matching.proofs.Sets.{none-set}
-use Rattle.matching.proofs.Heads.{first_in, some_first, some_for, waits_below}
+use Rattle.matching.proofs.Heads.{first_in, some_for}
 
 -- lists that are alike have the same table
 pub table_alike : (t : Firsts) (ls ks : ℕ → List Cell) → ((i : ℕ) → ls i ≡ ks i) → TableOf t ls → TableOf t ks

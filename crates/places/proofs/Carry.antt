@@ -1,12 +1,12 @@
 -- Carrying a cell from one row into another: the memory stays sound, the one row lacks the cell, the other has it behind its first j,
 -- and the other rows hold what they held.
-use Rattle.std.proofs.Common.{◌≡◌, ℕ, zero, suc, ◌+◌, ◌-◌, ◌*◌, ◌<◌, ◌≤◌, List, [], ◌∷◌, ◌++◌, map, length, get_or, take, drop, set, sym, refl, ap, ◌∙◌, subst, arith}
+use Rattle.std.proofs.Common.{◌≡◌, ℕ, ◌+◌, ◌-◌, ◌<◌, ◌≤◌, List, [], length, get_or, take, set, sym, ap, ◌∙◌, subst, arith}
 use Rattle.std.specs.List.{AllByRecursion, insert, remove as removed}
 use Rattle.std.proofs.lemmas.List.{set-set, set-get_or, get_or-set_same, get_or-set_other, take-set}
 use Rattle.crossbox.specs.declared.Cell.{Cell}
 use Rattle.places.specs.declared.Head.{Head}
 use Rattle.places.specs.Head.{vacant, head_of, cell_of}
-use Rattle.places.specs.Memory.{Mem, Held, held_at, held, head_at, Sound, Owned, Distinct, row_length, row, place_at, unlinked, linked, refilled, next, put, remove, carry}
+use Rattle.places.specs.Memory.{Mem, Held, held_at, held, head_at, Sound, Owned, Distinct, row_length, place_at, unlinked, linked, refilled, next, put, remove, carry}
 use Rattle.places.proofs.Safety.{row_few}
 use Rattle.places.proofs.Links.{refilled_shaped}
 use Rattle.places.proofs.Put.{put_sound, put-held, put-held_other}

@@ -1,12 +1,12 @@
 -- What the operations leave, in the shapes in which the code leaves it.
-use Rattle.std.proofs.Common.{◌≡◌, ℕ, zero, suc, ◌+◌, ◌-◌, ◌*◌, ◌<◌, ◌≤◌, Bool, true, false, List, [], ◌∷◌, ◌++◌, length, get_or, take, drop, set, replicate, sym, refl, ap, ◌∙◌, subst, arith}
+use Rattle.std.proofs.Common.{◌≡◌, ℕ, ◌+◌, ◌-◌, ◌*◌, ◌<◌, ◌≤◌, Bool, true, false, List, ◌++◌, length, get_or, take, drop, set, replicate, sym, ap, ◌∙◌, subst, arith}
 use Rattle.std.specs.List.{range_with_len}
 use Rattle.std.proofs.lemmas.List.{length-take-le, get_or-set_other}
 use Rattle.std.proofs.lemmas.Bool.{eq-eqb, ne_eqb}
 use Rattle.crossbox.specs.declared.Cell.{Cell}
 use Rattle.places.specs.declared.Head.{Head}
 use Rattle.places.specs.Head.{vacant, head_of, cell_of}
-use Rattle.places.specs.Rows.{moved_up, moved_down, slid_down, edited}
+use Rattle.places.specs.Rows.{moved_up, moved_down, slid_down}
 use Rattle.places.specs.Memory.{Mem, Shaped, row_length, row_start, base, head_at, next, full, slid, roomy, squeezed, linked, pulled, unlinked, refilled, put, remove, carry, reset, place_at}
 use Rattle.places.proofs.Safety.{row_end}
 use Rattle.places.proofs.Links.{slid_shaped, roomy_room, unlinked_shaped}

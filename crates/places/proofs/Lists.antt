@@ -1,11 +1,9 @@
 -- Laws of lists that the loops over rows want.
-use Rattle.std.proofs.Common.{◌≡◌, ℕ, zero, suc, ◌+◌, ◌-◌, ◌<◌, ◌≤◌, List, [], ◌∷◌, ◌++◌, map, length, get_or, take, drop, set, replicate, sym, refl, ap, ◌∙◌, add-one, arith}
+use Rattle.std.proofs.Common.{◌≡◌, ℕ, zero, suc, ◌+◌, ◌-◌, ◌<◌, ◌≤◌, List, [], ◌∷◌, ◌++◌, length, get_or, take, drop, set, replicate, sym, refl, ap, ◌∙◌, add-one, arith}
 use lib.Seq.{paste}
 use Rattle.std.specs.List.{range_with_len}
 use Rattle.std.proofs.lemmas.List.{append-nil, drop_all, take_all, take_more_set, replicate_more, map-id, length-drop}
 use Rattle.std.proofs.lemmas.List.FromFn.{fill_by_all}
-use Rattle.places.specs.declared.Head.{Head}
-use Rattle.places.specs.Head.{vacant}
 use Rattle.places.specs.Rows.{moved_up, moved_down, slid_down}
 
 up_suc : (x : ℕ) (xs : List ℕ) (i : ℕ) → i < length xs → set (take i (x ∷ xs) ++ drop i xs) i (get_or (x ∷ xs) i 0) ≡ take (suc i) (x ∷ xs) ++ drop (suc i) xs

@@ -1,9 +1,9 @@
 -- What a sound memory says of indices: rows lie within what is lent, and places within their lists.
-use Rattle.std.proofs.Common.{◌≡◌, ℕ, zero, suc, ◌+◌, ◌-◌, ◌*◌, ◌<◌, ◌≤◌, List, [], ◌∷◌, ◌++◌, length, get_or, take, drop, set, sym, refl, ap, ◌∙◌, mul-le-mul_right, suc-mul, arith}
+use Rattle.std.proofs.Common.{◌≡◌, ℕ, suc, ◌+◌, ◌-◌, ◌*◌, ◌<◌, ◌≤◌, length, get_or, take, mul-le-mul_right, suc-mul, arith}
 use Rattle.std.proofs.lemmas.List.{length-take, length-drop, get_or-take, get_or-drop}
 use Rattle.std.proofs.ByRecursion.{All-get_or}
 use Rattle.std.proofs.lemmas.List.Sums.{get_or-le-sum_by}
-use Rattle.places.specs.Memory.{Mem, Shaped, Sound, Owned, row_length, row_start, base, row, place_at, next}
+use Rattle.places.specs.Memory.{Mem, Shaped, Sound, Owned, row_length, base, row, place_at, next}
 
 -- the room of row r ends within what is lent
 pub row_end : (m : Mem) (r : ℕ) → Shaped m → r < m.count → r * m.room + m.room ≤ length m.rows

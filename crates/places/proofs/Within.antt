@@ -1,7 +1,7 @@
 -- No operation touches what lies beyond the places in use and the rows in use, and none reads it.
-use Rattle.std.proofs.Common.{◌≡◌, ℕ, zero, suc, ◌+◌, ◌-◌, ◌*◌, ◌<◌, ◌≤◌, Bool, true, false, eqb, List, [], ◌∷◌, ◌++◌, length, get_or, take, drop, set, replicate, sym, refl, ap, ◌∙◌, subst, arith, rules}
+use Rattle.std.proofs.Common.{◌≡◌, ℕ, zero, suc, ◌+◌, ◌-◌, ◌*◌, ◌<◌, ◌≤◌, Bool, true, false, eqb, List, [], ◌∷◌, ◌++◌, length, take, drop, set, replicate, sym, refl, ap, ◌∙◌, arith}
 use Rattle.std.specs.List.{range_with_len}
-use Rattle.std.proofs.lemmas.List.{places, same_lists, drop-set-lt, get_or-take, length-take, length-drop, length-append, length-replicate, take_at, drop_at, take_all, append-nil, drop_all}
+use Rattle.std.proofs.lemmas.List.{places, same_lists, drop-set-lt, get_or-take, length-take, length-drop, length-append, length-replicate, take_at, drop_at, append-nil, drop_all}
 use Rattle.std.proofs.lemmas.List.FromFn.{length-range_with_len}
 use Rattle.crossbox.specs.declared.Cell.{Cell}
 use Rattle.places.specs.declared.Head.{Head}

@@ -1,5 +1,5 @@
 -- Carrying a cell touches nothing beyond the places and the rows in use, and neither does it read that; rows within hold what they held.
-use Rattle.std.proofs.Common.{◌≡◌, ℕ, ◌+◌, ◌-◌, ◌*◌, ◌<◌, ◌≤◌, List, [], map, length, take, drop, set, sym, refl, ap, ◌∙◌, arith}
+use Rattle.std.proofs.Common.{◌≡◌, ℕ, ◌+◌, ◌-◌, ◌*◌, ◌<◌, ◌≤◌, List, [], map, take, drop, set, sym, refl, ap, ◌∙◌, arith}
 use Rattle.std.proofs.lemmas.List.{places, same_lists, drop-set-lt, get_or-set_other, get_or-take, length-take, length-drop}
 use Rattle.std.proofs.ByRecursion.{All-weaker}
 use Rattle.places.specs.declared.Head.{Head}

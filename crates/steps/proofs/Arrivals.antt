@@ -1,12 +1,12 @@
 -- Arrivals in memory: a good box stays good, with as many lines and slots as it had.
-use Rattle.std.proofs.Common.{◌≡◌, ℕ, zero, suc, ◌+◌, ◌-◌, ◌*◌, ◌<◌, ◌≤◌, min, Bool, true, false, cond, ◌&&◌, ltb, List, [], ◌∷◌, map, length, get_or, drop, set, replicate, Some, None, Ok, Option, sym, refl, ap, ◌∙◌, subst, inl, inr, add-one, arith}
+use Rattle.std.proofs.Common.{◌≡◌, ℕ, zero, suc, ◌+◌, ◌-◌, ◌<◌, ◌≤◌, Bool, true, false, ◌&&◌, ltb, List, map, length, get_or, drop, set, replicate, Some, None, Ok, sym, refl, ap, ◌∙◌, subst, inl, inr, add-one, arith}
 use Rattle.std.proofs.lemmas.List.{length-set, get_or-set_same, get_or-set_other, get_or-replicate}
 use Rattle.std.proofs.lemmas.List.Sums.{sum_by-set}
 use Rattle.std.proofs.lemmas.Bool.{cases_eq, cond_both, ltb-true}
 use Rattle.std.proofs.lemmas.Bool.Decides.{nat_tests}
 use Rattle.crossbox.specs.declared.Arrival.{Arrival}
 use Rattle.crossbox.specs.declared.Arrival.TheVariants.{Nothing, For}
-use Rattle.places.specs.Memory.{Mem, Held, held, row_length}
+use Rattle.places.specs.Memory.{Held, held}
 use Rattle.places.proofs.Put.{put_sound, put-held, put-held_other, map_inserted}
 use Rattle.firsts.proofs.Tables.{insert_table}
 use Rattle.words.specs.Lines.{no_line, Line, read_entry, read_lines, fits, all_fit, judge, verdict}

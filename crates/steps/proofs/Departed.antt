@@ -1,18 +1,16 @@
 -- Departures against the model: memory that spells a box whose stores rise spells, when the first of each store has left, the box from which the earliest have departed.
-use Rattle.std.proofs.Common.{◌≡◌, ℕ, zero, suc, ◌+◌, ◌-◌, ◌*◌, ◌<◌, ◌≤◌, Bool, true, false, cond, eqb, ltb, List, [], ◌∷◌, ◌++◌, map, length, get_or, set, Some, None, Option, sym, refl, ap, ◌∙◌, subst, inl, inr, arith}
+use Rattle.std.proofs.Common.{◌≡◌, ℕ, zero, suc, ◌+◌, ◌-◌, ◌<◌, ◌≤◌, Bool, true, cond, eqb, List, [], ◌∷◌, ◌++◌, map, length, get_or, Some, None, Option, sym, refl, ap, ◌∙◌, subst, inl, inr, arith}
 use Rattle.std.specs.List.{remove as removed}
-use Rattle.std.proofs.lemmas.List.{length-map, get_or-map, get_or-set_same, get_or-set_other}
-use Rattle.std.proofs.lemmas.Bool.{cases_eq, cases_lt}
+use Rattle.std.proofs.lemmas.List.{get_or-set_same, get_or-set_other}
+use Rattle.std.proofs.lemmas.Bool.{cases_eq}
 use Rattle.std.proofs.lemmas.Bool.Decides.{nat_tests}
 use Rattle.crossbox.specs.declared.Cell.{Cell}
 use Rattle.crossbox.specs.Ideal.{first, rest}
-use Rattle.crossbox.specs.Cells.{earliest}
-use Rattle.crossbox.specs.Box.{Box, held_for, for_output, departs, less, depart}
-use Rattle.crossbox.specs.Shape.{Rising, rises}
+use Rattle.crossbox.specs.Box.{Box, held_for, depart}
+use Rattle.crossbox.specs.Shape.{Rising}
 use Rattle.crossbox.proofs.Stores.{earliest-first, depart_drops}
 use Rattle.crossbox.proofs.Held.{store_held}
-use Rattle.places.specs.Memory.{Mem, Held, held, held_at, row, row_length, Sound, head_at, place_at, remove}
-use Rattle.places.proofs.Safety.{row_at, row-length}
+use Rattle.places.specs.Memory.{Held, held, held_at, row_length, place_at}
 use Rattle.places.proofs.Remove.{remove-held, remove-held_other}
 use Rattle.words.specs.Answer.{Departure, leaving}
 use Rattle.steps.specs.State.{State, Good, Counted, count_of}

@@ -1,18 +1,17 @@
 -- Departures in memory: a good box stays good, and the bytes of what leaves stand one after the other.
-use Rattle.std.proofs.Common.{◌≡◌, ℕ, zero, suc, ◌+◌, ◌-◌, ◌*◌, ◌<◌, ◌≤◌, Bool, true, false, cond, eqb, ltb, List, [], ◌∷◌, ◌++◌, map, length, get_or, take, drop, set, Some, None, Option, sym, refl, ap, ◌∙◌, subst, inl, inr, add-one, arith}
-use Rattle.std.proofs.lemmas.List.{length-set, length-append, take-append-drop, get_or-set_same, get_or-set_other, get_or_read}
+use Rattle.std.proofs.Common.{◌≡◌, ℕ, zero, suc, ◌+◌, ◌-◌, ◌<◌, ◌≤◌, Bool, false, cond, eqb, List, [], ◌++◌, map, length, get_or, take, drop, set, Some, None, sym, refl, ap, ◌∙◌, subst, inl, inr, add-one, arith}
+use Rattle.std.proofs.lemmas.List.{length-set, length-append, take-append-drop, get_or-set_same, get_or-set_other}
 use Rattle.std.proofs.lemmas.List.Sums.{sum_by-set}
-use Rattle.std.proofs.lemmas.Bool.{cases_eq, cond_both, cases_Bool, eqb-true}
+use Rattle.std.proofs.lemmas.Bool.{cases_eq, cond_both}
 use Rattle.std.proofs.lemmas.Bool.Decides.{nat_tests}
 use Rattle.crossbox.specs.declared.Cell.{Cell}
 use Rattle.places.specs.Head.{cell_of}
-use Rattle.places.specs.Memory.{Mem, Held, row_length, head_at, place_at, remove}
-use Rattle.places.proofs.Safety.{place_in, row_few}
+use Rattle.places.specs.Memory.{Held, row_length, head_at, place_at}
 use Rattle.places.proofs.Remove.{remove_sound, remove-held_other}
 use Rattle.firsts.proofs.Tables.{table_alike}
 use Rattle.steps.specs.Spells.{cells}
-use Rattle.words.specs.Answer.{Departure, leaving}
-use Rattle.words.specs.Writing.{overwrite, departure_bytes}
+use Rattle.words.specs.Answer.{leaving}
+use Rattle.words.specs.Writing.{overwrite}
 use Rattle.words.proofs.Overwrites.{written_then}
 use Rattle.steps.specs.State.{State, Good, Counted, count_of}
 use Rattle.steps.specs.Departures.{without_first, depart_one, depart_all, departure_of, departing_bytes}

@@ -1,6 +1,6 @@
 -- A choice is taken just where all its cells wait and it is stable.
-use Rattle.std.proofs.Common.{◌≡◌, ℕ, zero, suc, ◌+◌, ◌-◌, ◌<◌, ◌≤◌, Bool, true, false, cond, not, ◌&&◌, ◌||◌, eqb, ltb, ◌⊎◌, List, [], ◌∷◌, length, get_or, Some, None, Ok, Err, Option, Result, sym, refl, ap, ◌∙◌, subst, inl, inr, arith}
-use Rattle.std.proofs.lemmas.Bool.{cases_eq, cases_Bool, and_parts, or_cases, eqb-true}
+use Rattle.std.proofs.Common.{◌≡◌, ℕ, zero, suc, ◌<◌, Bool, true, false, cond, not, ◌&&◌, eqb, ◌⊎◌, List, [], ◌∷◌, length, get_or, Some, None, Ok, Err, Option, Result, sym, refl, ap, ◌∙◌, subst, inl, inr, arith}
+use Rattle.std.proofs.lemmas.Bool.{cases_eq, cases_Bool, or_cases, eqb-true}
 use Rattle.std.proofs.lemmas.Bool.Decides.{nat_tests}
 use Rattle.crossbox.specs.declared.Arrival.{Arrival}
 use Rattle.crossbox.specs.declared.Arrival.TheVariants.{Nothing, For}
@@ -11,7 +11,6 @@ use Rattle.crossbox.specs.Box.{Box, Stable, Reason, for_output, shares_none, one
 use Rattle.crossbox.proofs.Cells.{same_eq, same_refl, same_sym}
 use Rattle.crossbox.proofs.Choices.{one_output_lem}
 use Rattle.crossbox.proofs.Lists.{is_in-same}
-use Rattle.crossbox.proofs.Asking.{some_eq, some-none}
 use Rattle.words.specs.declared.fault.Fault.{Fault}
 use Rattle.words.specs.declared.fault.Fault.TheVariants.{NotWaiting, SharedOutput, Unstable}
 use Rattle.places.specs.Memory.{Mem}
@@ -19,7 +18,7 @@ use Rattle.steps.specs.Spells.{Spells, box_of}
 use Rattle.steps.specs.Choice.{first_for, named, also, picks, waits_in, all_wait, is_named, named_before, is_new, one_output, beats, settled, all_settled, gets_of, judge_choice, JudgedIsStable}
 use Rattle.firsts.specs.Firsts.{position}
 use Rattle.steps.proofs.Lists.{spelled-cells}
-use Rattle.steps.proofs.Named.{first-position, first_in, named_in, AtHome, picks_out, picks_into, none-picked}
+use Rattle.steps.proofs.Named.{first-position, first_in, named_in, AtHome, picks_out, picks_into}
 use Rattle.steps.proofs.Transfers.{all_wait_at, waits_position}
 use Rattle.steps.proofs.Transferred.{all_wait_alike, one_output_at}
 use Rattle.steps.proofs.Judging.{all_settled_at, judged_good}

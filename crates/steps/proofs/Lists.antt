@@ -1,12 +1,12 @@
 -- Laws of lists: a cell put behind the first k, and rows as lists of a box.
-use Rattle.std.proofs.Common.{◌≡◌, ℕ, zero, suc, ◌+◌, ◌-◌, ◌*◌, ◌<◌, ◌≤◌, min, List, [], ◌∷◌, ◌++◌, map, length, get_or, take, drop, sym, refl, ap, ◌∙◌, subst, arith}
+use Rattle.std.proofs.Common.{◌≡◌, ℕ, zero, suc, ◌<◌, min, List, [], ◌∷◌, map, length, get_or, sym, refl, ap, ◌∙◌, arith}
 use Rattle.std.specs.List.{insert}
 use Rattle.std.proofs.lemmas.List.{length-map, get_or-map}
 use Rattle.crossbox.specs.declared.Cell.{Cell}
-use Rattle.crossbox.specs.Box.{Box, put_at}
-use Rattle.places.specs.Memory.{Mem, Held, held, held_at, row, row_length, place_at, head_at, Sound}
+use Rattle.crossbox.specs.Box.{put_at}
+use Rattle.places.specs.Memory.{Mem, Held, held, held_at, row, row_length, place_at, Sound}
 use Rattle.places.proofs.Safety.{row-length, row_at}
-use Rattle.steps.specs.Spells.{dress, Spells, cells, box_of}
+use Rattle.steps.specs.Spells.{dress, cells}
 
 -- put at its place, or at the end
 pub put_at_inserted : (k : ℕ) (c : Cell) (l : List Cell) → put_at k c l ≡ insert l (min k (length l)) c

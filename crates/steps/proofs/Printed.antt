@@ -1,8 +1,8 @@
 -- What is read of memory that spells a box is of the box.
-use Rattle.std.proofs.Common.{◌≡◌, ℕ, ◌+◌, ◌<◌, ◌≤◌, true, ◌||◌, List, [], ◌∷◌, length, get_or, sym, refl, ap, ◌∙◌, subst, arith}
+use Rattle.std.proofs.Common.{◌≡◌, ℕ, ◌+◌, ◌<◌, true, List, [], ◌∷◌, sym, subst, arith}
 use Rattle.std.specs.List.{AllByRecursion}
 use Rattle.crossbox.specs.declared.Cell.{Cell}
-use Rattle.crossbox.specs.Cells.{same, is_in, count_earlier}
+use Rattle.crossbox.specs.Cells.{is_in}
 use Rattle.crossbox.specs.Box.{Box}
 use Rattle.crossbox.proofs.Cells.{same_refl}
 use Rattle.crossbox.proofs.Shape.{Directed}

@@ -1,12 +1,12 @@
 -- Where there are lines, a place is free, and no row is full.
-use Rattle.std.proofs.Common.{◌≡◌, ℕ, ◌+◌, ◌-◌, ◌*◌, ◌<◌, ◌≤◌, min, List, length, get_or, take, drop, sum, sym, refl, ap, ◌∙◌, subst, mul-le-mul_right, arith}
+use Rattle.std.proofs.Common.{ℕ, ◌+◌, ◌*◌, ◌<◌, ◌≤◌, min, length, take, drop, sum, subst, mul-le-mul_right, arith}
 use Rattle.std.specs.List.{AllByRecursion}
-use Rattle.std.proofs.lemmas.List.{length-take, length-drop, get_or-take, get_or-drop}
+use Rattle.std.proofs.lemmas.List.{length-take, get_or-take, get_or-drop}
 use Rattle.std.proofs.ByRecursion.{All-from_get_or, sum_by_le}
 use Rattle.std.proofs.lemmas.List.Sums.{sum_by-take-drop}
-use Rattle.places.specs.Memory.{Mem, Sound, row_length}
+use Rattle.places.specs.Memory.{row_length}
 use Rattle.places.proofs.Safety.{row_few}
-use Rattle.steps.specs.State.{State, Good, count_of}
+use Rattle.steps.specs.State.{State, Good}
 
 module _ (s : State) (g : Good s) where
   full_counts : AllByRecursion (λ x. x ≤ 256) (take s.lines s.counts)

@@ -1,32 +1,32 @@
 -- Transfers against the model: memory that spells a box spells, when the named cells have gone, the box with these transferred.
-use Rattle.std.proofs.Common.{◌≡◌, ℕ, zero, suc, ◌+◌, ◌-◌, ◌*◌, ◌<◌, ◌≤◌, Bool, true, false, cond, not, ◌&&◌, eqb, ltb, List, [], ◌∷◌, map, length, get_or, Some, None, Option, sym, refl, ap, ◌∙◌, subst, inl, inr, arith}
+use Rattle.std.proofs.Common.{◌≡◌, ℕ, zero, suc, ◌+◌, ◌<◌, ◌≤◌, Bool, true, false, cond, ◌&&◌, eqb, List, [], ◌∷◌, map, length, get_or, Some, Option, sym, refl, ap, ◌∙◌, subst, inl, inr, arith}
 use Rattle.std.specs.List.{insert, remove}
 use Rattle.std.proofs.lemmas.List.{get_or-map, get_or_default}
-use Rattle.std.proofs.lemmas.Bool.{cases_eq, cases_Bool, and_parts, eqb-true}
+use Rattle.std.proofs.lemmas.Bool.{cases_eq, cases_Bool, and_parts}
 use Rattle.std.proofs.lemmas.Bool.Decides.{nat_tests}
 use Rattle.crossbox.specs.declared.Arrival.{Arrival}
 use Rattle.crossbox.specs.declared.Arrival.TheVariants.{Nothing, For}
 use Rattle.crossbox.specs.declared.Cell.{Cell}
 use Rattle.crossbox.specs.Cells.{Arrivals, same, is_in}
-use Rattle.crossbox.specs.Box.{Box, Stable, held_for, for_output, slip, slip_all, without_all, transfer}
+use Rattle.crossbox.specs.Box.{Box, Stable, for_output, slip, slip_all, without_all, transfer}
 use Rattle.crossbox.specs.Promise.{Fits}
 use Rattle.crossbox.specs.Shape.{rises}
 use Rattle.crossbox.proofs.Shape.{Placed}
 use Rattle.crossbox.proofs.Cells.{same_refl}
 use Rattle.crossbox.proofs.Asking.{some_eq, some-none}
 use Rattle.crossbox.proofs.Held.{held-transfer}
-use Rattle.places.specs.Memory.{Mem, Held, held, held_at, place_at, row_length}
+use Rattle.places.specs.Memory.{Held, held, held_at, place_at}
 use Rattle.places.proofs.Put.{map_inserted}
 use Rattle.places.proofs.Remove.{map_removed}
-use Rattle.steps.specs.State.{State, Good, count_of}
+use Rattle.steps.specs.State.{State, Good}
 use Rattle.steps.specs.Spells.{dress, Spells, Counts, cells, box_of}
-use Rattle.steps.specs.Choice.{first_for, named, also, picks, waits_in, all_wait, is_named, named_before, is_new, one_output}
+use Rattle.steps.specs.Choice.{first_for, named, also, picks, waits_in, all_wait, named_before, is_new, one_output}
 use Rattle.firsts.specs.Firsts.{position}
 use Rattle.steps.specs.Transfers.{place_for, cell_at, sent, transfer_one, transfer_all}
-use Rattle.steps.proofs.Lists.{spelled-cells, cells-length, cells_at, held_at_lem}
-use Rattle.steps.proofs.Named.{first-position, first_in, named_in, AtHome, picks_out, picks_into, none-picked, without-none, without-one}
+use Rattle.steps.proofs.Lists.{spelled-cells, cells_at, held_at_lem}
+use Rattle.steps.proofs.Named.{first-position, first_in, AtHome, picks_out, picks_into, none-picked, without-none, without-one}
 use Rattle.steps.proofs.Places.{place_slip}
-use Rattle.steps.proofs.Transfers.{plain, plain_is, Going, going, next_is, sent_from, sent_to, sent_other, transferred_same, turn_waits, send_from, waits_position, all_wait_at}
+use Rattle.steps.proofs.Transfers.{plain, Going, going, next_is, sent_from, sent_to, sent_other, transferred_same, turn_waits, send_from, waits_position, all_wait_at}
 
 -- boxes whose lists agree are judged alike
 pub all_wait_alike : (n : ℕ) (ch : Arrivals) (b d : Box) → ((i : ℕ) → i < n → b.waiting i ≡ d.waiting i) → all_wait n ch b ≡ all_wait n ch d

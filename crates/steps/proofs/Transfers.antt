@@ -1,5 +1,5 @@
 -- Transfers in memory: a good box stays good, and a list is as it was until its input's turn.
-use Rattle.std.proofs.Common.{◌≡◌, ℕ, zero, suc, ◌+◌, ◌-◌, ◌*◌, ◌<◌, ◌≤◌, Bool, true, false, cond, not, ◌&&◌, ◌||◌, eqb, ltb, leb, List, [], ◌∷◌, map, length, get_or, set, Option, sym, refl, ap, ◌∙◌, subst, inl, inr, add-one, arith}
+use Rattle.std.proofs.Common.{◌≡◌, ℕ, zero, suc, ◌+◌, ◌-◌, ◌*◌, ◌<◌, ◌≤◌, Bool, true, false, not, ◌&&◌, ◌||◌, eqb, ltb, leb, List, [], ◌∷◌, map, length, get_or, set, Option, sym, refl, ap, ◌∙◌, subst, inl, inr, add-one, arith}
 use Rattle.std.specs.List.{insert, remove}
 use Rattle.std.proofs.lemmas.List.{length-set}
 use Rattle.std.proofs.lemmas.Bool.{cases_eq, cases_order, and_parts, ltb-true, lt-ltb, leb-true, eq-eqb}
@@ -16,7 +16,7 @@ use Rattle.firsts.proofs.Tables.{remove-table, pair_noted}
 use Rattle.bits.specs.Bits.{is_set, Lowest}
 use Rattle.bits.proofs.Sets.{none-set}
 use Rattle.places.proofs.Carry.{carry_sound, carry-held_from, carry-held_to, carry-held_other}
-use Rattle.steps.specs.State.{State, Good, count_of}
+use Rattle.steps.specs.State.{State, Good}
 use Rattle.steps.specs.Spells.{cells, box_of}
 use Rattle.steps.specs.Choice.{waits_in, all_wait}
 use Rattle.firsts.specs.declared.Firsts.{Firsts}

@@ -1,10 +1,9 @@
 -- What arrives in a slot, input by input, and what it leaves. Assumes nothing.
-use Rattle.std.specs.Prelude.{◌≡◌, ℕ, zero, suc, ◌+◌, ◌<◌, min, Bool, true, false, cond, not, ◌&&◌, List, [], ◌∷◌, length, Some, None, Option, nat_lt, slice_index_or, slice_set}
+use Rattle.std.specs.Prelude.{◌≡◌, ℕ, zero, suc, ◌+◌, ◌<◌, min, Bool, false, cond, not, List, [], length, Some, None, Option, nat_lt, slice_index_or, slice_set}
 use Rattle.crossbox.specs.declared.Arrival.{Arrival}
 use Rattle.crossbox.specs.declared.Arrival.TheVariants.{Nothing, For}
-use Rattle.crossbox.specs.declared.Cell.{Cell}
 use Rattle.crossbox.specs.Cells.{Arrivals}
-use Rattle.places.specs.Memory.{Mem, row_length, put}
+use Rattle.places.specs.Memory.{row_length, put}
 use Rattle.words.specs.Lines.{Line, no_line, read_lines}
 use Rattle.firsts.specs.Firsts.{after_insert}
 use Rattle.steps.specs.State.{State, count_of}

@@ -1,11 +1,11 @@
 -- What a choice leaves in memory, input by input. Assumes nothing.
-use Rattle.std.specs.Prelude.{ℕ, zero, suc, ◌+◌, ◌-◌, ◌<◌, Bool, true, false, cond, eqb, List, [], ◌∷◌, length, get_or}
+use Rattle.std.specs.Prelude.{ℕ, zero, suc, ◌+◌, ◌-◌, ◌<◌, Bool, true, false, List, length}
 use Rattle.std.specs.List.{suffix_len, remove}
 use Rattle.crossbox.specs.declared.Arrival.{Arrival}
 use Rattle.crossbox.specs.declared.Arrival.TheVariants.{Nothing, For}
 use Rattle.crossbox.specs.declared.Cell.{Cell}
 use Rattle.crossbox.specs.Cells.{Arrivals, earlier}
-use Rattle.places.specs.Head.{vacant, cell_of}
+use Rattle.places.specs.Head.{cell_of}
 use Rattle.places.specs.Memory.{Mem, carry, head_at, place_at}
 use Rattle.firsts.specs.Firsts.{position, first_of, after_remove}
 use Rattle.steps.specs.State.{State}

@@ -1,5 +1,5 @@
 -- Each turn of the ideal box over lent memory is what `respond` says.
-use Rattle.std.proofs.Common.{◌≡◌, ℕ, zero, suc, ◌+◌, ◌*◌, ◌<◌, ◌≤◌, Bool, true, false, cond, ◌&&◌, eqb, ltb, leb, ◌⊎◌, List, [], ◌∷◌, ◌++◌, map, length, get_or, take, drop, Some, None, Ok, Err, Option, Result, unwrap_or, sym, refl, ap, ◌∙◌, subst, inl, inr, ⊎_elim, arith}
+use Rattle.std.proofs.Common.{◌≡◌, ℕ, ◌+◌, ◌*◌, ◌<◌, ◌≤◌, Bool, true, false, cond, ◌&&◌, eqb, leb, List, [], ◌∷◌, map, length, get_or, take, drop, Some, None, Ok, Err, Option, Result, unwrap_or, sym, refl, ap, ◌∙◌, subst, inl, inr, ⊎_elim, arith}
 use Rattle.std.specs.List.{range_with_len}
 use Rattle.std.proofs.lemmas.List.{length-map}
 use Rattle.std.proofs.lemmas.Bool.{and_parts, leb-true, ne_eqb, cond-false}
@@ -7,9 +7,9 @@ use Rattle.crossbox.specs.declared.Arrival.{Arrival}
 use Rattle.crossbox.specs.declared.Arrival.TheVariants.{Nothing, For}
 use Rattle.crossbox.specs.declared.Cell.{Cell}
 use Rattle.crossbox.specs.Cells.{Arrivals}
-use Rattle.crossbox.specs.Ideal.{admitted, rest, first, queue, departure, full, rejected}
+use Rattle.crossbox.specs.Ideal.{admitted, first, queue, departure, full, rejected}
 use Rattle.buffer.specs.declared.Head.{Head}
-use Rattle.buffer.specs.Memory.{Mem, Held, held, held_at, enough, fresh}
+use Rattle.buffer.specs.Memory.{Mem, held_at, enough, fresh}
 use Rattle.buffer.specs.Lent.{Lent, lent_to, beyond}
 use Rattle.buffer.proofs.Reset.{reset-row}
 use Rattle.words.specs.declared.fault.Fault.{Fault}
@@ -17,7 +17,7 @@ use Rattle.words.specs.declared.fault.Fault.TheVariants.{Malformed, LineCount, N
 use Rattle.words.specs.declared.read.Kind.{Kind}
 use Rattle.words.specs.declared.read.Kind.TheVariants.{Settings, Slot, Choice, Unknown}
 use Rattle.words.specs.Kind.{kind_of}
-use Rattle.words.specs.Lines.{Line, no_line, read_lines, all_fit, settings, judge, judged, verdict}
+use Rattle.words.specs.Lines.{Line, no_line, all_fit, settings, judge, judged, verdict}
 use Rattle.words.specs.Writing.{overwrite, refusal_bytes}
 use Rattle.words.specs.Answer.{Departure, Written, answer_bytes}
 use Rattle.words.proofs.Scans.{verdict_good}
@@ -26,16 +26,15 @@ use Rattle.words.proofs.Answered.{answer_front, answer-behind}
 use Rattle.ideal.specs.State.{State, Good, begun, unset}
 use Rattle.ideal.specs.Steps.{Reads, admit_all, away, depart_all, departures, served, leavers, rejects}
 use Rattle.ideal.specs.Steps as steps
-use Rattle.ideal.specs.Kept as kept
 use Rattle.ideal.proofs.Good.{with, reads_bring, admit_all_good, depart_all_good, begun_good, unset_good}
-use Rattle.ideal.proofs.Spelled.{shown, Spells, Dresses, full_for, admit_all-spelled, away_all_spelled, departures-spelled, left-spelled}
+use Rattle.ideal.proofs.Spelled.{Spells, Dresses, full_for, admit_all-spelled, away_all_spelled, departures-spelled, left-spelled}
 use Rattle.ideal.proofs.Kept.{slot_stays, settings_stay, places_kept}
-use Rattle.switch.specs.Respond.{Status, Verdict, SlotIn, arrived, body_in, slot_of, with_body, slot_answer, settings_verdict, slot_verdict, on_slot, by_kind, decide, outcome, respond}
+use Rattle.switch.specs.Respond.{Status, Verdict, SlotIn, arrived, slot_of, with_body, slot_answer, settings_verdict, slot_verdict, on_slot, by_kind, decide, outcome, respond}
 use Rattle.switch.specs.Respond.Status.{Unset, Running}
 use Rattle.switch.specs.Respond.Verdict.{Refuse, Begin, Take}
 use Rattle.switch.specs.declared.best.Step.{Step}
 use Rattle.switch.specs.declared.best.Step.TheVariants as step
-use Rattle.switch.specs.Promise.{Answers, Keeps, PutThere, lines_of}
+use Rattle.switch.specs.Promise.{Answers, Keeps, lines_of}
 use Rattle.switch.specs.Best.{dressed, Runs, Shows, Refused, Settled, Slotted, step_of}
 use Rattle.switch.proofs.History.{counting_alike, body_new, dressed_on, queue-none, queue-more, shown_is}
 

@@ -1,5 +1,5 @@
 -- The promise of a box, on the call that takes a word and gives the answer. Assumes nothing.
-use Rattle.std.specs.Prelude.{◌≡◌, ℕ, ◌*◌, ◌<◌, false, ◌⊎◌, List, [], ◌∷◌, length, get_or, take, drop, slice_index_or}
+use Rattle.std.specs.Prelude.{◌≡◌, ℕ, ◌*◌, ◌<◌, false, ◌⊎◌, List, [], length, get_or, take, drop, slice_index_or}
 use Rattle.crossbox.specs.declared.Arrival.TheVariants.{For}
 use Rattle.crossbox.specs.Ideal.{rejected}
 use Rattle.buffer.specs.Head.{vacant}
@@ -8,7 +8,7 @@ use Rattle.words.specs.Lines.{Line}
 use Rattle.words.specs.declared.fault.Fault.{Fault}
 use Rattle.switch.specs.Respond.Status.{Unset, Running}
 use Rattle.switch.specs.Respond.Verdict.{Refuse, Take}
-use Rattle.switch.specs.Respond.{Status, Verdict, SlotIn, arrived, slot_of, decide, respond}
+use Rattle.switch.specs.Respond.{Status, SlotIn, arrived, slot_of, decide, respond}
 
 -- the first r bytes of a buffer are the answer, and the rest of the buffer is as it was
 pub record Answers (st : Status) (word : List ℕ) (r : ℕ) (before after : List ℕ) : Type 0 where

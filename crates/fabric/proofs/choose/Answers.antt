@@ -1,9 +1,7 @@
-use Rattle.std.proofs.Common.{◌≡◌, ℕ, sym, subst, arith}
-use Rattle.crossbox.specs.Box.{Box}
+use Rattle.std.proofs.Common.{ℕ, sym, subst, arith}
 use Rattle.matching.specs.Table.{Ties, Finds}
 use Rattle.matching.proofs.Making.{table_alike, table_ties}
 use Rattle.cioq.specs.State.{state}
-use Rattle.fabric.specs.Real.{Tied}
 use Rattle.fabric.proofs.Lists.{all_lists}
 use Rattle.fabric.proofs.choose.Goals as goal
 

@@ -1,4 +1,4 @@
-use Rattle.std.proofs.Common.{◌≡◌, sym, ◌∙◌, arith}
+use Rattle.std.proofs.Common.{sym, arith}
 use Rattle.matching.proofs.Making.{table_alike}
 use Rattle.cioq.specs.State.{state}
 use Rattle.fabric.specs.Real.{up_to}

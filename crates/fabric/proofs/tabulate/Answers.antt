@@ -1,4 +1,4 @@
-use Rattle.std.proofs.Common.{◌≡◌, ℕ, ap, subst, arith}
+use Rattle.std.proofs.Common.{◌≡◌, ℕ, subst, arith}
 use Rattle.matching.specs.Making.{TableOf}
 use Rattle.matching.proofs.Making.{table_alike}
 use Rattle.cioq.specs.State.{state}

@@ -1,4 +1,4 @@
-use Rattle.std.proofs.Common.{◌≡◌, ◌-◌, ◌≤◌, drop, Some}
+use Rattle.std.proofs.Common.{◌≡◌, ◌-◌, drop, Some}
 use Rattle.words.specs.Lines.{read_lines}
 use Rattle.cioq.specs.State.{state}
 use Rattle.cioq.specs.Arrivals.{slot_lines, admit_all, away}

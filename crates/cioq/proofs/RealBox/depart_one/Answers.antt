@@ -1,9 +1,8 @@
-use Rattle.std.proofs.Common.{◌≡◌, ℕ, ◌+◌, ◌-◌, ◌<◌, List, length, get_or, set, Some, sym, ap, ◌∙◌, arith}
+use Rattle.std.proofs.Common.{◌≡◌, ◌+◌, ◌-◌, length, get_or, set, sym, ap, ◌∙◌, arith}
 use Rattle.words.specs.Answer.{Departure, leaving}
 use Rattle.words.specs.Writing.{overwrite}
 use Rattle.buffer.specs.Memory.{Mem, view, row_length}
-use Rattle.cioq.specs.State.{State, state}
-use Rattle.cioq.specs.Departures.{departure_of, without_first}
+use Rattle.cioq.specs.State.{state}
 use Rattle.cioq.proofs.Departures.{departs-first, departure-first}
 use Rattle.cioq.proofs.RealBox.depart_one.Goals as goal
 

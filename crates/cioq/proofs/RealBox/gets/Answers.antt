@@ -1,7 +1,7 @@
-use Rattle.std.proofs.Common.{◌≡◌, ℕ, ◌<◌, ◌≤◌, sym, ap, ◌∙◌, subst, arith}
+use Rattle.std.proofs.Common.{◌≡◌, ℕ, ap, ◌∙◌, arith}
 use Rattle.buffer.specs.Memory.{view}
 use Rattle.cioq.specs.Spells.{cells, box_of}
-use Rattle.cioq.specs.Choice.{choice_of, table_of, gets_of, picks}
+use Rattle.cioq.specs.Choice.{choice_of, gets_of, picks}
 use Rattle.cioq.proofs.Judging.{table_none, table_more, named_there}
 use Rattle.cioq.proofs.RealBox.gets.Goals as goal
 

@@ -1,9 +1,9 @@
-use Rattle.std.proofs.Common.{◌≡◌, ℕ, ◌<◌, ◌≤◌, length, get_or, sym, ap, ◌∙◌, subst, arith}
+use Rattle.std.proofs.Common.{◌<◌, sym, ◌∙◌, subst, arith}
 use Rattle.std.proofs.ByRecursion.{All-get_or}
 use Rattle.crossbox.specs.declared.Cell.{Cell}
 use Rattle.buffer.specs.Memory.{view}
 use Rattle.cioq.specs.Spells.{cells}
-use Rattle.cioq.specs.Choice.{table_of, settled}
+use Rattle.cioq.specs.Choice.{table_of}
 use Rattle.cioq.proofs.Lists.{cells-length, cells_at}
 use Rattle.cioq.proofs.Judging.{settled-sent, settled-not, settled_on, settled_end}
 use Rattle.cioq.proofs.RealBox.settled.Goals as goal

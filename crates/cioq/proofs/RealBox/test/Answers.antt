@@ -1,4 +1,4 @@
-use Rattle.std.proofs.Common.{◌≡◌, sym, ap, ◌∙◌}
+use Rattle.std.proofs.Common.{sym, ◌∙◌}
 use Rattle.buffer.specs.Memory.{view}
 use Rattle.cioq.specs.Spells.{box_of}
 use Rattle.cioq.specs.Choice.{choice_of, picks, gets_of, table_of}

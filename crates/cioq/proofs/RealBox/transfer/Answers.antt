@@ -1,4 +1,4 @@
-use Rattle.std.proofs.Common.{◌≡◌, ◌<◌, sym, refl, ap, ◌∙◌, arith}
+use Rattle.std.proofs.Common.{sym, refl, arith}
 use Rattle.cioq.specs.State.{state}
 use Rattle.cioq.specs.Choice.{choice_of}
 use Rattle.cioq.proofs.Transfers.{transfer-none, step_good, step_lines, step_sends, step_after}

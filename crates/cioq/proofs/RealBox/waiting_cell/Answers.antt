@@ -1,4 +1,4 @@
-use Rattle.std.proofs.Common.{◌<◌, sym, ◌∙◌, arith}
+use Rattle.std.proofs.Common.{sym, ◌∙◌, arith}
 use Rattle.buffer.specs.Memory.{view}
 use Rattle.cioq.proofs.Lists.{cells-length, cells_at}
 use Rattle.cioq.proofs.RealBox.waiting_cell.Goals as goal

@@ -1,4 +1,4 @@
-use Rattle.std.proofs.Common.{◌≡◌, ◌<◌, ◌≤◌, length, sym, ap, ◌∙◌, arith}
+use Rattle.std.proofs.Common.{sym, ◌∙◌, arith}
 use Rattle.buffer.specs.Memory.{view}
 use Rattle.cioq.specs.Spells.{cells}
 use Rattle.cioq.proofs.Lists.{cells-length, cells_at}

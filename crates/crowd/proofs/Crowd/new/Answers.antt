@@ -1,4 +1,4 @@
-use Rattle.std.proofs.Common.{◌≡◌, sym, refl, ap, subst}
+use Rattle.std.proofs.Common.{sym, refl, ap, subst}
 use Rattle.cioq.specs.State.{Good}
 use Rattle.cioq.specs.State as real
 use Rattle.cioq.proofs.Begun.{made_good}

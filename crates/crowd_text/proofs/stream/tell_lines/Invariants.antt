@@ -1,4 +1,4 @@
-use Rattle.std.proofs.Common.{ℕ, length}
+use Rattle.std.proofs.Common.{length}
 use Rattle.crowd.specs.Crowd.{Status}
 use Rattle.crowd.specs.State.{state, Shows}
 use Rattle.ideal.specs.State as best

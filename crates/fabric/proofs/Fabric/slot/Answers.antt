@@ -1,7 +1,7 @@
-use Rattle.std.proofs.Common.{◌≡◌, ℕ, ◌+◌, ◌*◌, ◌≤◌, List, [], take, sym, refl, ap, ◌∙◌, subst, arith, rules}
-use Rattle.words.specs.Answer.{Departure, Written}
+use Rattle.std.proofs.Common.{◌≡◌, ℕ, take, sym, refl, ap, ◌∙◌, subst, arith, rules}
+use Rattle.words.specs.Answer.{Written}
 use Rattle.words.proofs.Answered.{answer_begins}
-use Rattle.cioq.specs.State.{State, state, passed}
+use Rattle.cioq.specs.State.{State, state}
 use Rattle.cioq.specs.Departures.{depart_all}
 use Rattle.cioq.specs.Arrivals.{slot_lines}
 use Rattle.cioq.proofs.Arrivals.{all_lines}

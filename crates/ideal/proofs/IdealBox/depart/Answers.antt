@@ -1,4 +1,4 @@
-use Rattle.std.proofs.Common.{◌≡◌, ℕ, ◌+◌, ◌<◌, List, length, sym, refl, ap, ◌∙◌, arith}
+use Rattle.std.proofs.Common.{◌<◌, length, sym, ap, ◌∙◌, arith}
 use Rattle.buffer.specs.Memory.{view, row_length}
 use Rattle.words.specs.Answer.{Departure, leaving}
 use Rattle.words.specs.Writing.{overwrite}

@@ -1,4 +1,4 @@
-use Rattle.std.proofs.Common.{sym, refl, ◌∙◌, arith}
+use Rattle.std.proofs.Common.{sym, ◌∙◌}
 use Rattle.matching.proofs.Making.{noted-before, noted-now}
 use Rattle.matching.proofs.Firsts.note.Goals as goal
 

@@ -1,4 +1,3 @@
-use Rattle.std.proofs.Common.{arith}
 use Rattle.buffer.specs.Memory.{view}
 use Rattle.buffer.proofs.Exact.{reset_exact}
 use Rattle.buffer.proofs.memory.Memory.reset.Goals as goal
