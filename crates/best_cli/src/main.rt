@@ -3,7 +3,7 @@
 
 use buffer::{Head, PLACES};
 use cli::CliError;
-use ideal::ROOM;
+use ideal::ROW_ROOM;
 use std::process::ExitCode;
 use switch::best_box;
 
@@ -15,7 +15,7 @@ fn best(rt: &HostRuntime) -> Result<(), CliError> {
     let heap = rt.alloc();
     let mut heads = vec![in heap; Head::VACANT; PLACES]?;
     let mut cells = vec![in heap; [0u8; 64]; PLACES]?;
-    let mut rows = vec![in heap; 0u16; LINES * ROOM]?;
+    let mut rows = vec![in heap; 0u16; LINES * ROW_ROOM]?;
     let mut spare = vec![in heap; 0u16; PLACES]?;
     let Some(mut ideal) = best_box(&mut heads, &mut cells, &mut rows, &mut spare) else {
         return Err(CliError::TooLittleLent);

@@ -4,6 +4,7 @@
 use buffer::{Head, PLACES};
 use cli::CliError;
 use fabric::Fabric;
+use firsts::Firsts;
 use std::process::ExitCode;
 
 // A list for each input and a store for each output, each with room for every place.
@@ -16,7 +17,9 @@ fn real(rt: &HostRuntime) -> Result<(), CliError> {
     let mut cells = vec![in heap; [0u8; 64]; PLACES]?;
     let mut rows = vec![in heap; 0u16; ROWS * PLACES]?;
     let mut spare = vec![in heap; 0u16; PLACES]?;
-    let Some(mut fabric) = Fabric::new(&mut heads, &mut cells, &mut rows, &mut spare) else {
+    let mut firsts = Firsts::new();
+    let Some(mut fabric) = Fabric::new(&mut heads, &mut cells, &mut rows, &mut spare, &mut firsts)
+    else {
         return Err(CliError::TooLittleLent);
     };
     cli::run(rt, "box", &mut fabric)

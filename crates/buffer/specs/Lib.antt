@@ -1,4 +1,1 @@
-pub mod Head
-pub mod Rows
-pub mod Memory
-pub mod Lent
+pub mod View

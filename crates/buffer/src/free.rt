@@ -1,9 +1,10 @@
 // The row of free places, by how many there are: the places themselves stand in lent memory.
 ghost use Rattle.std.specs.Prelude.{◌≡◌, ◌+◌, ◌^◌, ◌<◌};
 
+#[repr(C)]
 #[derive(Clone, Copy)]
 pub struct Free {
-    pub len: u16,
+    pub len: usize,
 }
 
 impl Free {
@@ -14,7 +15,7 @@ impl Free {
         ensures at { result.1 ≡ result.0.len }
     {
         let len = self.len - 1;
-        (Free { len }, len as usize)
+        (Free { len }, len)
     }
 
     // The row with one place more, and where that one is to stand.
@@ -24,6 +25,6 @@ impl Free {
         ensures at { result.1 ≡ self.len }
     {
         let len = self.len;
-        (Free { len: len + 1 }, len as usize)
+        (Free { len: len + 1 }, len)
     }
 }

@@ -1,8 +1,8 @@
 // Parts of rows of places.
 ghost use Rattle.std.specs.Prelude.{◌≡◌, ℕ, ◌-◌, ◌<◌, ◌≤◌, ◌∷◌, ◌++◌, length, replicate};
 ghost use Rattle.std.specs.List.{range_with_len};
-ghost use Rattle.buffer.specs.Head.{vacant};
-ghost use Rattle.buffer.specs.Rows.{moved_up, moved_down};
+ghost use Rattle.places.specs.Head.{vacant};
+ghost use Rattle.places.specs.Rows.{moved_up, moved_down, slid_down};
 
 use crate::Head;
 
@@ -24,6 +24,14 @@ pub fn move_down(part: &mut [u16])
     ensures { part.new ≡ moved_down part.old }
 {
     part.copy_within(1.., 0);
+}
+
+// Slides a part of a row down, over its first values; what it leaves at the end stands as it was.
+pub fn slide(part: &mut [u16], by: usize)
+    requires { by ≤ length part.old }
+    ensures { part.new ≡ slid_down by part.old }
+{
+    part.copy_within(by.., 0);
 }
 
 // Makes every place of a part free.

@@ -1,9 +1,1 @@
-pub mod State
-pub mod Spells
-pub mod Arrivals
-pub mod Departures
-pub mod Choice
-pub mod Transfers
-pub mod Bits
-pub mod Kept
-pub mod Named
+pub mod View

@@ -1,8 +1,9 @@
 // Arrivals: each cell is put into the list of its input, or turned away.
 ghost use Rattle.std.specs.Prelude.{◌≡◌, ℕ, ◌^◌, ◌<◌, min, false, ◌&&◌, Ok, nat_lt, slice_index_or};
 ghost use Rattle.words.specs.Lines.{judge, verdict};
-ghost use Rattle.cioq.specs.State.{state, Good};
-ghost use Rattle.cioq.specs.Arrivals.{Brings, admit_one, turned_away, admit_all, away, slot_lines};
+ghost use Rattle.steps.specs.State.{Good};
+ghost use Rattle.cioq.specs.View.{state};
+ghost use Rattle.steps.specs.Arrivals.{Brings, admit_one, turned_away, admit_all, away, slot_lines};
 
 use crate::{ROOM, RealBox};
 use crossbox::{Arrival, Cell};
@@ -39,6 +40,7 @@ impl<'a> RealBox<'a> {
             output,
         };
         self.memory.put(input, k, cell, body_of(body));
+        self.firsts.insert(input, k as u16, cell);
         self.held[output as usize] = count + 1;
         false
     }

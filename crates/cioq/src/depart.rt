@@ -2,8 +2,9 @@
 ghost use Rattle.std.specs.Prelude.{◌≡◌, ◌+◌, ◌*◌, ◌<◌, ◌≤◌, length};
 ghost use Rattle.words.specs.Writing.{overwrite, departure_bytes};
 ghost use Rattle.words.specs.Answer.{leaving};
-ghost use Rattle.cioq.specs.State.{state, Good, Counted};
-ghost use Rattle.cioq.specs.Departures.{depart_one, departure_of, depart_all, departing_bytes};
+ghost use Rattle.steps.specs.State.{Good, Counted};
+ghost use Rattle.cioq.specs.View.{state};
+ghost use Rattle.steps.specs.Departures.{depart_one, departure_of, depart_all, departing_bytes};
 
 use crate::RealBox;
 use crossbox::Cell;

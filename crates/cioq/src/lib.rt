@@ -2,27 +2,19 @@
 #![tactic(auto)]
 
 ghost use Rattle.std.specs.Prelude.{◌≡◌, ℕ, ◌+◌, ◌*◌, ◌^◌, ◌<◌, ◌≤◌, true, false, length, MatchOption, slice_index_or};
-ghost use Rattle.crossbox.specs.Cells.{count_earlier};
-ghost use Rattle.buffer.specs.Memory.{enough, fresh};
-ghost use Rattle.cioq.specs.State.{State, state, Good, unset, begun, passed};
-ghost use Rattle.cioq.specs.Spells.{box_of};
+ghost use Rattle.places.specs.Memory.{enough, fresh, lent_enough};
+ghost use Rattle.steps.specs.State.{State, Good, unset, begun, passed, renewed};
+ghost use Rattle.cioq.specs.View.{state};
+ghost use Rattle.steps.specs.Spells.{box_of};
 
 mod arrive;
-mod bits;
 mod depart;
-mod judge;
-mod kept;
 mod search;
 mod transfer;
 
-use crate::search::count_earlier;
 use buffer::{Head, Memory};
 use crossbox::Cell;
-pub use judge::{stable_choices_are_named, taken_choices_are_stable};
-pub use kept::{
-    arrivals_stay_within, departures_stay_within, places_keep_their_bytes, settings_stay_within,
-    transfer_stays_within,
-};
+use firsts::Firsts;
 
 // How many cells the box holds for an output.
 pub const ROOM: u16 = 256;
@@ -31,17 +23,19 @@ pub const ROOM: u16 = 256;
 const PLACES_A_LINE: u16 = 257;
 
 // Rows: a list for each of 32 inputs, and a store for each of 32 outputs.
-pub const ROWS: usize = 64;
+const ROWS: u8 = 64;
 
 // The room of a row: for all places.
-pub const ROW_ROOM: usize = 8224;
+const ROW_ROOM: usize = 8224;
 
+#[repr(C)]
 #[derive(Drop)]
 pub struct RealBox<'a> {
-    memory: Memory<'a, ROWS, ROW_ROOM>,
-    held: [u16; 32],
-    lines: u8,
+    pub memory: Memory<'a>,
+    firsts: &'a mut Firsts,
     now: u64,
+    held: [u16; 32],
+    pub lines: u8,
 }
 
 impl<'a> RealBox<'a> {
@@ -51,18 +45,39 @@ impl<'a> RealBox<'a> {
         cells: &'a mut [[u8; 64]],
         rows: &'a mut [u16],
         spare: &'a mut [u16],
+        firsts: &'a mut Firsts,
     ) -> Option<RealBox<'a>>
         ensures { MatchOption result (enough 64 8224 heads.old cells.old rows.old spare.old ≡ false) (λ b. (enough 64 8224 heads.old cells.old rows.old spare.old ≡ true) × (state b ≡ unset (fresh 64 8224 heads.old cells.old rows.old spare.old))) }
     {
-        match Memory::new(heads, cells, rows, spare) {
-            Some(memory) => Some(RealBox {
-                memory,
-                held: [0; 32],
-                lines: 0,
-                now: 0,
-            }),
+        match Memory::new(heads, cells, rows, spare, ROWS, ROW_ROOM) {
+            Some(memory) => {
+                firsts.clear();
+                Some(RealBox {
+                    memory,
+                    firsts,
+                    held: [0; 32],
+                    lines: 0,
+                    now: 0,
+                })
+            }
             None => None,
         }
+    }
+
+    // Makes it a box with no lines yet over what is lent to it, whatever it was; false, and nothing is changed, where that is too
+    // little.
+    pub fn renew(&mut self) -> bool
+        ensures after { state self.exit.now ≡ renewed (state self.entry.now) }
+        ensures done { result ≡ lent_enough 64 8224 (state self.entry.now).mem }
+    {
+        if !self.memory.renew(ROWS, ROW_ROOM) {
+            return false;
+        }
+        self.firsts.clear();
+        self.held = [0; 32];
+        self.lines = 0;
+        self.now = 0;
+        true
     }
 
     // How many lines there are; 0 before the first settings.
@@ -86,6 +101,7 @@ impl<'a> RealBox<'a> {
         ensures { state self.exit.now ≡ begun lines (state self.entry.now) }
     {
         self.memory.reset(PLACES_A_LINE * u16::from(lines));
+        self.firsts.clear();
         self.held = [0; 32];
         self.lines = lines;
         self.now = 0;
@@ -97,6 +113,13 @@ impl<'a> RealBox<'a> {
         ensures { state self.exit.now ≡ passed (state self.entry.now) }
     {
         self.now += 1;
+    }
+
+    // The table of the first waiting cell of each pair.
+    pub fn firsts<'s>(&'s self) -> &'s Firsts
+        ensures { result.now ≡ (state self.entry.now).firsts }
+    {
+        &*self.firsts
     }
 
     // How many cells wait in the list of an input.
@@ -116,14 +139,5 @@ impl<'a> RealBox<'a> {
         ensures { result ≡ slice_index_or ((box_of (state self.entry.now).lines (state self.entry.now).mem).waiting input) k result }
     {
         self.memory.cell(input, k)
-    }
-
-    // How many cells in the store of a cell's output are earlier than the cell.
-    pub fn earlier_stored(&self, cell: Cell) -> usize
-        requires good { Good (state self.now) }
-        requires there { cell.output < (state self.now).lines }
-        ensures { result ≡ count_earlier cell ((box_of (state self.entry.now).lines (state self.entry.now).mem).store cell.output) }
-    {
-        count_earlier(&self.memory, self.lines + cell.output, cell)
     }
 }

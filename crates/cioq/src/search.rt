@@ -1,40 +1,40 @@
 // Searches in rows: where cells stand, and where they belong.
-ghost use Rattle.std.specs.Prelude.{◌≡◌, ◌<◌};
-ghost use Rattle.crossbox.specs.Cells.{earlier, count_earlier};
-ghost use Rattle.buffer.specs.Memory.{view, Sound};
-ghost use Rattle.cioq.specs.Spells.{cells};
-ghost use Rattle.cioq.specs.Transfers.{position, place_for};
+ghost use Rattle.std.specs.Prelude.{◌≡◌, ◌<◌, ◌≤◌};
+ghost use Rattle.crossbox.specs.Cells.{earlier};
+ghost use Rattle.places.specs.Memory.{Sound};
+ghost use Rattle.buffer.specs.View.{view};
+ghost use Rattle.steps.specs.Spells.{cells};
+ghost use Rattle.firsts.specs.Firsts.{position, first_of};
+ghost use Rattle.steps.specs.Transfers.{place_for};
 
-use crate::{ROW_ROOM, ROWS};
 use buffer::Memory;
-use crossbox::Cell;
+use crossbox::{Cell, is_earlier};
+use firsts::First;
 
-// Whether a cell is earlier than another, both being for one output.
-pub fn is_earlier(a: Cell, b: Cell) -> bool
-    ensures { result ≡ earlier a b }
-{
-    a.slot < b.slot || (a.slot == b.slot && a.input < b.input)
-}
-
-// How many cells of a row stand before its first for an output; all, if it has none.
-pub fn first_for(memory: &Memory<'_, ROWS, ROW_ROOM>, row: u8, output: u8) -> usize
+// The first cell of a row for an output, none of which stands among the first `from`.
+pub fn next_for(memory: &Memory<'_>, row: u8, from: usize, output: u8) -> Option<First>
     requires sound { Sound (view memory.now) }
-    requires within { row < 64 }
-    ensures { result ≡ position output (cells (view memory.now) row) }
+    requires within { row < (view memory.now).count }
+    requires behind { from ≤ position output (cells (view memory.now) row) }
+    ensures { result ≡ first_of output (cells (view memory.now) row) }
 {
     let len = memory.len(row);
-    for k in 0..len {
-        if memory.cell(row, k).output == output {
-            return k;
+    for k in from..len {
+        let cell = memory.cell(row, k);
+        if cell.output == output {
+            return Some(First {
+                place: k as u16,
+                slot: cell.slot,
+            });
         }
     }
-    len
+    None
 }
 
 // Behind how many cells of a row a cell belongs, sought from the row's end.
-pub fn place_for(memory: &Memory<'_, ROWS, ROW_ROOM>, row: u8, cell: Cell) -> usize
+pub fn place_for(memory: &Memory<'_>, row: u8, cell: Cell) -> usize
     requires sound { Sound (view memory.now) }
-    requires within { row < 64 }
+    requires within { row < (view memory.now).count }
     ensures { result ≡ place_for cell (cells (view memory.now) row) }
 {
     let mut k = memory.len(row);
@@ -46,20 +46,4 @@ pub fn place_for(memory: &Memory<'_, ROWS, ROW_ROOM>, row: u8, cell: Cell) -> us
         k -= 1;
     }
     k
-}
-
-// How many cells of a row are earlier than a cell.
-pub fn count_earlier(memory: &Memory<'_, ROWS, ROW_ROOM>, row: u8, cell: Cell) -> usize
-    requires sound { Sound (view memory.now) }
-    requires within { row < 64 }
-    ensures { result ≡ count_earlier cell (cells (view memory.now) row) }
-{
-    let len = memory.len(row);
-    let mut count = 0;
-    for k in 0..len {
-        if is_earlier(memory.cell(row, k), cell) {
-            count += 1;
-        }
-    }
-    count
 }

@@ -1,20 +1,20 @@
 -- The bytes with which cells came, as a slot is added, and what leaves with them.
-use Rattle.std.proofs.Common.{◌≡◌, ℕ, zero, suc, ◌<◌, true, eqb, List, [], ◌∷◌, ◌++◌, map, length, Some, None, Option, sym, refl, ap, ◌∙◌, add-one, arith}
+use Rattle.std.proofs.Common.{◌≡◌, ℕ, zero, suc, ◌+◌, ◌<◌, ◌≤◌, Bool, true, false, cond, ◌||◌, eqb, List, [], ◌∷◌, ◌++◌, map, length, get_or, Some, None, Option, sym, refl, ap, ◌∙◌, subst, add-one, arith}
 use Rattle.std.specs.List.{range_with_len, AllByRecursion}
 use Rattle.std.proofs.lemmas.List.FromFn.{map-range_with_len_more}
 use Rattle.std.proofs.lemmas.Bool.{cond-false, ne_eqb}
 use Rattle.crossbox.specs.declared.Cell.{Cell}
-use Rattle.crossbox.specs.Cells.{is_in}
+use Rattle.crossbox.specs.Cells.{same, is_in}
 use Rattle.crossbox.specs.Box.{Box, departs}
 use Rattle.crossbox.proofs.Cells.{same_refl}
 use Rattle.crossbox.proofs.Shape.{Placed}
-use Rattle.buffer.specs.Memory.{Mem}
-use Rattle.buffer.proofs.Put.{map_alike}
+use Rattle.places.specs.Memory.{Mem, Held, held}
+use Rattle.places.proofs.Put.{map_alike}
 use Rattle.words.specs.Answer.{Departure, leaving, leaving_all}
 use Rattle.words.proofs.Answered.{leaving_push}
-use Rattle.cioq.specs.State as real
-use Rattle.cioq.specs.Spells.{Spells, dress}
-use Rattle.cioq.specs.Departures.{dressed, departure_of, depart_all, departing_bytes, departed_bytes}
+use Rattle.steps.specs.State as real
+use Rattle.steps.specs.Spells.{Spells, dress}
+use Rattle.steps.specs.Departures.{dressed, departure_of, depart_all, departing_bytes, departed_bytes}
 use Rattle.switch.specs.Respond.{SlotIn, body_in, with_body}
 use Rattle.crowd.specs.State.{departures_of}
 

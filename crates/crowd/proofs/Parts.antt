@@ -1,8 +1,8 @@
 -- Two answers compared output by output.
-use Rattle.std.proofs.Common.{◌≡◌, ℕ, ◌+◌, ◌<◌, Bool, true, false, not, List, length, get_or, set, sym, refl, ap, ◌∙◌, subst, inl, inr, add-one, arith}
+use Rattle.std.proofs.Common.{◌≡◌, ℕ, suc, ◌+◌, ◌<◌, Bool, true, false, not, List, length, get_or, set, sym, refl, ap, ◌∙◌, subst, inl, inr, add-one, arith}
 use Rattle.std.proofs.lemmas.List.{length-set, get_or-set_same, get_or-set_other}
 use Rattle.std.proofs.lemmas.Bool.{cases_eq}
-use Rattle.crowd.specs.Parts.{behind, behind_all, part_of}
+use Rattle.crowd.specs.Parts.{behind, behind_all, part, part_of}
 
 -- of the first k outputs it is told where two answers differ
 abbrev pub Told : List Bool → ℕ → List ℕ → List ℕ → Type 0

@@ -1,5 +1,5 @@
 -- Choices read from bytes, and what a good judgement of lines says.
-use Rattle.std.proofs.Common.{◌≡◌, ℕ, ◌+◌, ◌<◌, ◌≤◌, Bool, true, false, cond, ◌&&◌, ltb, leb, List, [], ◌∷◌, length, get_or, set, replicate, Some, None, Ok, Err, Option, Result, sym, refl, ap, ◌∙◌, subst, inl, inr, arith}
+use Rattle.std.proofs.Common.{◌≡◌, ℕ, zero, suc, ◌+◌, ◌-◌, ◌<◌, ◌≤◌, Bool, true, false, cond, ◌&&◌, ltb, leb, List, [], ◌∷◌, length, get_or, drop, set, replicate, Some, None, Ok, Err, Option, Result, sym, refl, ap, ◌∙◌, subst, inl, inr, arith}
 use mathlib.Core.Path.{fun_ext}
 use Rattle.std.proofs.lemmas.List.{length-set, get_or-set_same, get_or-set_other, get_or_past, get_or-replicate}
 use Rattle.std.proofs.lemmas.Bool.{cases_eq, cases_lt, and_parts, leb-true, ltb-true, lt-ltb, le-ltb}
@@ -9,14 +9,14 @@ use Rattle.crossbox.specs.declared.Arrival.TheVariants.{Nothing, For}
 use Rattle.crossbox.specs.Cells.{Arrivals}
 use Rattle.crossbox.specs.Promise.{Fits}
 use Rattle.words.specs.declared.fault.Fault.{Fault}
-use Rattle.words.specs.declared.fault.Fault.TheVariants.{LineCount, NoSuchOutput, SlotLimit}
+use Rattle.words.specs.declared.fault.Fault.TheVariants.{Malformed, LineCount, NoSuchOutput, SlotLimit}
 use Rattle.words.specs.Lines.{Line, no_line, fits, read_lines, all_fit, settings, judge, judged, verdict}
 use Rattle.words.proofs.Lines.{lines-length, fits_at}
 use Rattle.words.proofs.Scans.{verdict_good}
-use Rattle.cioq.specs.Arrivals.{arrivals_of, lines_or}
-use Rattle.cioq.specs.Choice.{choice_of, all_wait, judge_choice}
-use Rattle.cioq.specs.Spells.{box_of}
-use Rattle.cioq.proofs.Judged.{taken}
+use Rattle.steps.specs.Arrivals.{arrivals_of, lines_or}
+use Rattle.steps.specs.Choice.{choice_of, all_wait, judge_choice}
+use Rattle.steps.specs.Spells.{box_of}
+use Rattle.steps.proofs.Judged.{taken}
 use Rattle.crowd.specs.State.{State, choice_lines, Found, FoundIn, Choosing, Tried, Chosen}
 
 -- what a good judgement of lines says

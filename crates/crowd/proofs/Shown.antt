@@ -1,16 +1,17 @@
 -- What is read of a crowd's memory is of the box of the status that it shows.
-use Rattle.std.proofs.Common.{◌≡◌, ℕ, zero, suc, ◌<◌, true, false, List, [], ◌∷◌, length, get_or, Ok, sym, ap, ◌∙◌, subst, inl, inr, arith}
+use Rattle.std.proofs.Common.{◌≡◌, ℕ, zero, suc, ◌+◌, ◌<◌, ◌≤◌, Bool, true, false, ◌||◌, ◌⊎◌, List, [], ◌∷◌, length, get_or, Ok, sym, refl, ap, ◌∙◌, subst, inl, inr, arith}
 use Rattle.crossbox.specs.declared.Arrival.{Arrival}
 use Rattle.crossbox.specs.declared.Cell.{Cell}
 use Rattle.crossbox.specs.Cells.{is_in}
 use Rattle.crossbox.specs.Box.{Box}
 use Rattle.crossbox.proofs.Cells.{same_refl}
 use Rattle.words.specs.Lines.{Line, judge}
-use Rattle.cioq.specs.Spells.{Spells, box_of}
-use Rattle.cioq.specs.Arrivals.{arrivals_of}
-use Rattle.cioq.specs.Choice.{choice_of, judge_choice}
-use Rattle.cioq.proofs.Printed.{spelled_list, spelled_store}
-use Rattle.cioq.proofs.Judged.{judged-spelled}
+use Rattle.steps.specs.State as real
+use Rattle.steps.specs.Spells.{Spells, box_of}
+use Rattle.steps.specs.Arrivals.{arrivals_of}
+use Rattle.steps.specs.Choice.{choice_of, judge_choice}
+use Rattle.steps.proofs.Printed.{spelled_list, spelled_store}
+use Rattle.steps.proofs.Judged.{judged-spelled}
 use Rattle.switch.specs.Respond.{SlotIn, body_in}
 use Rattle.crowd.specs.Crowd.{Status, lines_of, box_in}
 use Rattle.crowd.specs.Crowd.Status.{Unset, SlotDue, FirstDue, SecondDue}

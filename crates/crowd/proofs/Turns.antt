@@ -1,8 +1,9 @@
 -- Each turn of the crowd is what `crowd_respond` says, and its answers are those of the ideal box.
-use Rattle.std.proofs.Common.{◌≡◌, ℕ, ◌<◌, ◌≤◌, Bool, true, false, not, ◌&&◌, leb, List, [], ◌∷◌, ◌++◌, map, length, take, drop, None, Ok, Err, Option, Result, sym, refl, ap, ◌∙◌, subst, arith}
+use Rattle.std.proofs.Common.{◌≡◌, ℕ, ◌+◌, ◌<◌, ◌≤◌, Bool, true, false, not, ◌&&◌, ltb, leb, List, [], ◌∷◌, ◌++◌, map, length, get_or, take, drop, None, Ok, Err, Option, Result, sym, refl, ap, ◌∙◌, subst, arith}
 use Rattle.std.specs.List.{range_with_len}
 use Rattle.std.proofs.lemmas.Bool.{lt-ltb}
 use Rattle.crossbox.specs.declared.Cell.{Cell}
+use Rattle.crossbox.specs.Cells.{Arrivals}
 use Rattle.crossbox.specs.Ideal.{departure, rejected}
 use Rattle.crossbox.specs.Box.{Box, Run, begin, Stable, empty, transfer, depart, room_for}
 use Rattle.crossbox.specs.Box as model
@@ -16,16 +17,16 @@ use Rattle.words.specs.declared.read.Kind.TheVariants as kind
 use Rattle.words.specs.Kind.{kind_of}
 use Rattle.words.specs.Lines.{Line, settings, judge}
 use Rattle.words.specs.Writing.{overwrite, refusal_bytes}
-use Rattle.words.specs.Answer.{Departure, flag_bytes, answer_bytes}
+use Rattle.words.specs.Answer.{Departure, Written, leaving_all, flag_bytes, answer_bytes}
 use Rattle.words.proofs.Overwrites.{overwrite_front, overwrite-behind}
 use Rattle.words.proofs.Answered.{answer_front, answer-behind}
-use Rattle.cioq.specs.State.{begun}
-use Rattle.cioq.specs.State as real
-use Rattle.cioq.specs.Spells.{box_of}
-use Rattle.cioq.specs.Arrivals.{arrivals_of, away}
-use Rattle.cioq.specs.Choice.{picks, judge_choice}
-use Rattle.cioq.proofs.Begun.{begun_good, begun_spells, begun_counts}
-use Rattle.cioq.proofs.Judged.{judged_stable, judged-spelled}
+use Rattle.steps.specs.State.{begun}
+use Rattle.steps.specs.State as real
+use Rattle.steps.specs.Spells.{box_of}
+use Rattle.steps.specs.Arrivals.{arrivals_of, away}
+use Rattle.steps.specs.Choice.{picks, judge_choice}
+use Rattle.steps.proofs.Begun.{begun_good, begun_spells, begun_counts}
+use Rattle.steps.proofs.Judged.{judged_stable, judged-spelled}
 use Rattle.switch.specs.Respond.{SlotIn, arrived, body_in, slot_of, with_body, slot_answer}
 use Rattle.switch.specs.Respond as ideal
 use Rattle.switch.proofs.History.{counting_alike}
@@ -36,7 +37,7 @@ use Rattle.crowd.specs.declared.Turn.TheVariants as turn
 use Rattle.crowd.specs.Crowd.{Status, Verdict, due_of, turn_of, turns_away, choice_answer, settings_verdict, slot_verdict, test_verdict, choice_verdict, by_turn, decide, outcome, crowd_respond}
 use Rattle.crowd.specs.Crowd.Status.{Unset, SlotDue, FirstDue, SecondDue}
 use Rattle.crowd.specs.Crowd.Verdict.{Refuse, Begin, Take, Choose}
-use Rattle.crowd.specs.State.{State, Holds, Arrived, arrives, Shows, Refused, Settled, Taken, Slotted, First, Second, Tried, Chosen, chosen, departures_of}
+use Rattle.crowd.specs.State.{State, Holds, Arrived, arrives, Departed, Shows, Refused, Settled, Taken, Slotted, First, Second, Tried, Chosen, chosen, departures_of}
 use Rattle.crowd.specs.Promise.{Answers, Keeps, SameAnswer, SameAsIdeal}
 use Rattle.crowd.proofs.Reading.{judge_ok, lines_fit, settings_range}
 use Rattle.crowd.proofs.Within.{run_placed, arrived_placed, departed_placed, arrive_holds, arrive-away, choice_stable, transfer_holds, depart_holds, depart_bytes, next_rising, next-departed, next-run, shows_good}

@@ -1,7 +1,7 @@
 -- The real box against the model, step by step within a slot.
-use Rattle.std.proofs.Common.{◌≡◌, ℕ, ◌<◌, Bool, true, not, ◌⊎◌, List, ◌∷◌, map, length, get_or, Some, Ok, sym, ◌∙◌, subst, inl, inr, arith}
+use Rattle.std.proofs.Common.{◌≡◌, ℕ, zero, suc, ◌+◌, ◌<◌, ◌≤◌, Bool, true, false, not, ◌&&◌, ◌⊎◌, List, [], ◌∷◌, map, length, get_or, Some, Ok, Err, sym, refl, ap, ◌∙◌, subst, inl, inr, arith}
 use Rattle.std.specs.List.{range_with_len}
-use Rattle.words.specs.Answer.{leaving_all}
+use Rattle.words.specs.Answer.{Departure, leaving_all}
 use Rattle.std.proofs.lemmas.List.{length-map}
 use Rattle.crossbox.specs.declared.Arrival.TheVariants.{For}
 use Rattle.crossbox.specs.declared.Cell.{Cell}
@@ -13,20 +13,20 @@ use Rattle.crossbox.specs.Promise.{Fits, AllFit}
 use Rattle.crossbox.proofs.Shape.{Placed, Directed, arriving_directed, transfer_directed}
 use Rattle.crossbox.proofs.Runs.{run_like, arrived_like, departed_like, run_directed, stores_rise_transferred}
 use Rattle.words.specs.Lines.{Line, no_line, read_lines, all_fit}
-use Rattle.cioq.specs.State.{State, Good, Aimed, Counted, passed}
-use Rattle.cioq.specs.Spells.{Spells, Counts, box_of}
-use Rattle.cioq.specs.Arrivals.{arrivals_of, admit_all, away}
-use Rattle.cioq.specs.Choice.{picks, all_wait, judge_choice}
-use Rattle.cioq.specs.Transfers.{transfer_all}
-use Rattle.cioq.specs.Departures.{depart_all}
-use Rattle.cioq.proofs.Arrivals.{all_lines, all_slots, all_good, read_bring}
-use Rattle.cioq.proofs.Arrived.{admitted_spells, admitted_counts, admitted-away}
-use Rattle.cioq.proofs.Transfers.{transferred_lines, transferred_slots, transferred_good}
-use Rattle.cioq.proofs.Transferred.{waits_there, transferred_spells, transferred_counts}
-use Rattle.cioq.proofs.Departures.{departed-lines, departed-slots, departed_good}
-use Rattle.cioq.proofs.Departed.{spelled_counted, departed_spells, departed_bytes_lem, departed_counts}
-use Rattle.cioq.proofs.Judged.{taken, judged_stable, judged-spelled}
-use Rattle.cioq.proofs.Printed.{spelled_aimed}
+use Rattle.steps.specs.State.{State, Good, Aimed, Counted, passed}
+use Rattle.steps.specs.Spells.{Spells, Counts, box_of}
+use Rattle.steps.specs.Arrivals.{arrivals_of, admit_all, away}
+use Rattle.steps.specs.Choice.{picks, all_wait, judge_choice}
+use Rattle.steps.specs.Transfers.{transfer_all}
+use Rattle.steps.specs.Departures.{depart_all}
+use Rattle.steps.proofs.Arrivals.{all_lines, all_slots, all_good, read_bring}
+use Rattle.steps.proofs.Arrived.{admitted_spells, admitted_counts, admitted-away}
+use Rattle.steps.proofs.Transfers.{transferred_lines, transferred_slots, transferred_good}
+use Rattle.steps.proofs.Transferred.{waits_there, transferred_spells, transferred_counts}
+use Rattle.steps.proofs.Departures.{departed-lines, departed-slots, departed_good}
+use Rattle.steps.proofs.Departed.{spelled_counted, departed_spells, departed_bytes_lem, departed_counts}
+use Rattle.steps.proofs.Judged.{taken, judged_stable, judged-spelled}
+use Rattle.steps.proofs.Printed.{spelled_aimed}
 use Rattle.switch.specs.Respond.{SlotIn, arrived, body_in, slot_of, with_body}
 use Rattle.switch.proofs.History.{body_new}
 use Rattle.crowd.specs.State.{Holds, Arrived, arrives, Departed, departs, Shows, departures_of}
@@ -80,6 +80,7 @@ passed_good s g =
       heads_lent = g.heads_lent;
       cells_lent = g.cells_lent;
       spare_lent = g.spare_lent;
+      tabled = g.tabled;
     }
 
 -- cells arrive

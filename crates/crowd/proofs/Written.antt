@@ -1,17 +1,17 @@
 -- The answer to a first choice, as it is written.
-use Rattle.std.proofs.Common.{◌≡◌, ℕ, ◌+◌, List, [], ◌∷◌, ◌++◌, length, take, sym, ap, ◌∙◌, subst, arith}
+use Rattle.std.proofs.Common.{◌≡◌, ℕ, ◌+◌, ◌≤◌, Bool, List, [], ◌∷◌, ◌++◌, length, take, sym, refl, ap, ◌∙◌, subst, arith}
 use Rattle.std.proofs.lemmas.List.{append-nil}
 use Rattle.crossbox.specs.Cells.{Arrivals}
 use Rattle.words.specs.Lines.{Line}
 use Rattle.words.specs.Writing.{overwrite}
-use Rattle.words.specs.Answer.{Written, leaving_all, flag_bytes}
+use Rattle.words.specs.Answer.{Departure, Written, leaving_all, flag_bytes, answer_bytes}
 use Rattle.words.proofs.Overwrites.{written_then}
-use Rattle.cioq.specs.State as real
-use Rattle.cioq.specs.Arrivals.{arrivals_of}
-use Rattle.cioq.specs.Transfers.{transfer_all}
-use Rattle.cioq.specs.Departures.{depart_all, departing_bytes}
-use Rattle.cioq.proofs.Transfers.{transferred_lines}
-use Rattle.cioq.proofs.Departures.{departed-lines}
+use Rattle.steps.specs.State as real
+use Rattle.steps.specs.Arrivals.{arrivals_of}
+use Rattle.steps.specs.Transfers.{transfer_all}
+use Rattle.steps.specs.Departures.{depart_all, departing_bytes}
+use Rattle.steps.proofs.Transfers.{transferred_lines}
+use Rattle.steps.proofs.Departures.{departed-lines}
 use Rattle.crowd.specs.declared.Due.TheVariants as due
 use Rattle.crowd.specs.State.{State, First, chosen, departures_of}
 use Rattle.crowd.proofs.Bodies.{departing_all}

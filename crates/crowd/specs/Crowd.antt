@@ -12,8 +12,8 @@ use Rattle.words.specs.Kind.{kind_of}
 use Rattle.words.specs.Lines.{Line, settings, judge}
 use Rattle.words.specs.Writing.{refusal_bytes}
 use Rattle.words.specs.Answer.{answer_bytes}
-use Rattle.cioq.specs.Arrivals.{arrivals_of}
-use Rattle.cioq.specs.Choice.{picks, judge_choice}
+use Rattle.steps.specs.Arrivals.{arrivals_of}
+use Rattle.steps.specs.Choice.{picks, judge_choice}
 use Rattle.switch.specs.Respond.{SlotIn, arrived, slot_of, with_body}
 use Rattle.crowd.specs.declared.Due.{Due}
 use Rattle.crowd.specs.declared.Due.TheVariants as due

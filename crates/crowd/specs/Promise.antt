@@ -5,7 +5,7 @@ use Rattle.words.specs.declared.fault.Fault.{Fault}
 use Rattle.words.specs.Lines.{Line}
 use Rattle.switch.specs.Respond.{SlotIn, slot_answer, respond}
 use Rattle.switch.specs.Respond.Status.{Running}
-use Rattle.crowd.specs.Crowd.{Status, decide, crowd_respond}
+use Rattle.crowd.specs.Crowd.{Status, Verdict, decide, crowd_respond}
 use Rattle.crowd.specs.Crowd.Status.{SlotDue, FirstDue}
 use Rattle.crowd.specs.Crowd.Verdict.{Refuse, Take, Choose}
 use Rattle.crowd.specs.State.{State, Shows}

@@ -9,13 +9,14 @@ use Rattle.words.specs.declared.fault.Fault.{Fault}
 use Rattle.words.specs.Lines.{Line, read_lines, judge}
 use Rattle.words.specs.Writing.{overwrite, refusal_bytes}
 use Rattle.words.specs.Answer.{Departure, Written}
-use Rattle.cioq.specs.State.{Good, begun, passed}
-use Rattle.cioq.specs.State as real
-use Rattle.cioq.specs.Spells.{Spells, Counts, box_of}
-use Rattle.cioq.specs.Arrivals.{arrivals_of, admit_all, away, lines_or}
-use Rattle.cioq.specs.Choice.{choice_of, judge_choice}
-use Rattle.cioq.specs.Transfers.{transfer_all}
-use Rattle.cioq.specs.Departures.{depart_all, departure_of}
+use Rattle.steps.specs.State.{Good, begun, passed}
+use Rattle.cioq.specs.View as shown
+use Rattle.steps.specs.State as real
+use Rattle.steps.specs.Spells.{Spells, Counts, box_of}
+use Rattle.steps.specs.Arrivals.{arrivals_of, admit_all, away, lines_or}
+use Rattle.steps.specs.Choice.{choice_of, judge_choice}
+use Rattle.steps.specs.Transfers.{transfer_all}
+use Rattle.steps.specs.Departures.{depart_all, departure_of}
 use Rattle.switch.specs.Respond.{SlotIn, arrived, body_in}
 use Rattle.crowd.specs.declared.Crowd.{Crowd}
 use Rattle.crowd.specs.declared.Due.{Due}
@@ -30,7 +31,7 @@ pub record State : Type 0 where
   pub away : List Bool
 
 abbrev pub state : Crowd → State
-state c = record { real = real.state c.real; due = c.due; away = c.away }
+state c = record { real = shown.state c.real; due = c.due; away = c.away }
 
 -- memory spells a box of n lines after these slots, each cell with the bytes with which it came
 pub record Holds (s : real.State) (n : ℕ) (past : List SlotIn) (b : Box) : Type 0 where

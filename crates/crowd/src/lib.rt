@@ -3,10 +3,10 @@
 
 ghost use Rattle.std.specs.Prelude.{◌≡◌, ℕ, ◌≤◌, Bool, true, false, List, ◌∷◌, take, Ok, MatchOption, nat_le};
 ghost use Rattle.crossbox.specs.Box.{Box};
-ghost use Rattle.buffer.specs.Memory.{enough};
+ghost use Rattle.places.specs.Memory.{enough};
 ghost use Rattle.words.specs.Lines.{Line, settings, judge, verdict};
-ghost use Rattle.cioq.specs.Arrivals.{arrivals_of};
-ghost use Rattle.cioq.specs.Choice.{choice_of};
+ghost use Rattle.steps.specs.Arrivals.{arrivals_of};
+ghost use Rattle.steps.specs.Choice.{choice_of};
 ghost use Rattle.switch.specs.Respond.{SlotIn, slot_answer};
 ghost use Rattle.crowd.specs.Crowd.{Status, turn_of, decide, crowd_respond};
 ghost use Rattle.crowd.specs.Crowd.Status.{Unset, FirstDue};
@@ -19,6 +19,8 @@ mod print;
 use buffer::Head;
 use cioq::RealBox;
 use crossbox::Arrival;
+use firsts::Firsts;
+use judge::test;
 pub use print::{Part, differs, next_part};
 use words::{
     ANSWER, BODY, Fault, Kind, judge_lines, read_entry, read_settings, write_byte, write_flags,
@@ -100,10 +102,11 @@ impl<'a> Crowd<'a> {
         cells: &'a mut [[u8; 64]],
         rows: &'a mut [u16],
         spare: &'a mut [u16],
+        firsts: &'a mut Firsts,
     ) -> Option<Crowd<'a>>
         ensures { MatchOption result (enough 64 8224 heads.old cells.old rows.old spare.old ≡ false) (λ c. (enough 64 8224 heads.old cells.old rows.old spare.old ≡ true) × Shows (state c) Unset) }
     {
-        match RealBox::new(heads, cells, rows, spare) {
+        match RealBox::new(heads, cells, rows, spare, firsts) {
             Some(real) => Some(Crowd {
                 real,
                 due: Due::Unset,
@@ -154,7 +157,7 @@ impl<'a> Crowd<'a> {
         match judge_lines(self.real.lines(), NO_BODY, false, lines) {
             Ok(()) => {
                 let choice = read_choice(self.real.lines(), lines);
-                match self.real.test(&choice) {
+                match test(&self.real, &choice) {
                     Ok(()) => Ok(choice),
                     Err(fault) => Err(fault),
                 }

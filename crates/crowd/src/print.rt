@@ -2,14 +2,15 @@
 ghost use Rattle.std.specs.Prelude.{◌≡◌, ℕ, ◌<◌, ◌≤◌, false, List, length, IfSome, Ok, Decides, slice_index_or};
 ghost use Rattle.crossbox.specs.Cells.{count_earlier};
 ghost use Rattle.words.specs.Lines.{Line, judge};
-ghost use Rattle.cioq.specs.Arrivals.{arrivals_of};
-ghost use Rattle.cioq.specs.Choice.{choice_of, named, judge_choice};
+ghost use Rattle.steps.specs.Arrivals.{arrivals_of};
+ghost use Rattle.steps.specs.Choice.{choice_of, named, judge_choice};
 ghost use Rattle.crowd.specs.Crowd.{Status, lines_of, box_in, due_of};
 ghost use Rattle.crowd.specs.State.{state, Shows};
 ghost use Rattle.crowd.specs.Parts.{part_size, part, behind, part_of};
 
 use crate::{Crowd, Due};
 use crossbox::{Arrival, Cell};
+use judge::named_at;
 use words::NONE;
 
 // The bytes of a departure: its input, the slot in which it arrived, and what it carries.
@@ -71,7 +72,7 @@ impl<'a> Crowd<'a> {
         requires there { cell.output < (state self.now).real.lines }
         ensures { (st : Status) → Shows (state self.now) st → result ≡ count_earlier cell ((box_in st).store cell.output) }
     {
-        self.real.earlier_stored(cell)
+        judge::earlier_stored(&self.real, cell)
     }
 
     // The choice of the lines of a word, where one is due and it is taken.
@@ -92,7 +93,7 @@ impl<'a> Crowd<'a> {
         requires there { input < (state self.now).real.lines }
         ensures { (st : Status) → Shows (state self.now) st → result ≡ named arrival ((box_in st).waiting input) }
     {
-        self.real.named_at(input, arrival)
+        named_at(&self.real, input, arrival)
     }
 }
 

@@ -11,7 +11,8 @@ use buffer::{Head, PLACES};
 use cli::{CliError, Request};
 use crowd::Crowd;
 use crowd_text::{tell_end, tell_stream};
-use ideal::{IdealBox, ROOM};
+use firsts::Firsts;
+use ideal::{IdealBox, ROW_ROOM};
 use serve::{Form, zeros};
 use std::process::ExitCode;
 
@@ -93,12 +94,14 @@ fn run(rt: &HostRuntime, form: Form) -> Result<(), CliError> {
     let mut cells = vec![in heap; [0u8; 64]; PLACES]?;
     let mut rows = vec![in heap; 0u16; ROWS]?;
     let mut spare = vec![in heap; 0u16; PLACES]?;
-    let Some(mut crowd) = Crowd::new(&mut heads, &mut cells, &mut rows, &mut spare) else {
+    let mut firsts = Firsts::new();
+    let Some(mut crowd) = Crowd::new(&mut heads, &mut cells, &mut rows, &mut spare, &mut firsts)
+    else {
         return Err(CliError::TooLittleLent);
     };
     let mut ideal_heads = vec![in heap; Head::VACANT; PLACES]?;
     let mut ideal_cells = vec![in heap; [0u8; 64]; PLACES]?;
-    let mut ideal_rows = vec![in heap; 0u16; LINES * ROOM]?;
+    let mut ideal_rows = vec![in heap; 0u16; LINES * ROW_ROOM]?;
     let mut ideal_spare = vec![in heap; 0u16; PLACES]?;
     let Some(mut ideal) = IdealBox::new(
         &mut ideal_heads,

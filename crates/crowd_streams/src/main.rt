@@ -10,7 +10,8 @@ ghost use Rattle.switch.specs.Best as switch;
 use buffer::{Head, PLACES};
 use crowd::Crowd;
 use crowd_text::{tell_end, tell_stream};
-use ideal::{IdealBox, ROOM};
+use firsts::Firsts;
+use ideal::{IdealBox, ROW_ROOM};
 use serve::{Form, ServeError, zeros};
 use std::alloc::{AllocError, Global};
 use std::{env, fs};
@@ -81,6 +82,7 @@ fn tell_text(
 fn tell_whole(
     heap: Global,
     lent: &mut Lent,
+    firsts: &mut Firsts,
     beside: &mut Lent,
     input: &[u8],
 ) -> Result<String, ServeError> {
@@ -89,6 +91,7 @@ fn tell_whole(
         &mut lent.cells,
         &mut lent.rows,
         &mut lent.spare,
+        firsts,
     ) else {
         return Err(ServeError::TooLittleLent);
     };
@@ -130,7 +133,8 @@ fn check_stream(
     let heap = rt.alloc();
     let input = fs::read(rt, format!(in heap; "{name}.in")?)?;
     let expected = fs::read(rt, format!(in heap; "{name}.out")?)?;
-    let text = match tell_whole(heap, lent, beside, &input) {
+    let mut firsts = Firsts::new();
+    let text = match tell_whole(heap, lent, &mut firsts, beside, &input) {
         Ok(text) => text,
         Err(e) => {
             println!(rt; "{name}: {e}")?;
@@ -147,7 +151,7 @@ fn check_stream(
 // Runs the streams that the arguments name.
 fn run(rt: &HostRuntime) -> anyhow::Result<()> {
     let mut lent = lend(rt.alloc(), ROWS)?;
-    let mut beside = lend(rt.alloc(), LINES * ROOM)?;
+    let mut beside = lend(rt.alloc(), LINES * ROW_ROOM)?;
     for name in env::args(rt)?.skip(1) {
         check_stream(rt, &mut lent, &mut beside, name.as_str())?;
     }

@@ -1,9 +1,10 @@
 -- A choice that is found from memory: it may be transferred, and memory then spells the model's box with it transferred.
-use Rattle.std.proofs.Common.{◌≡◌, ℕ, zero, suc, ◌<◌, true, List, [], ◌∷◌, length, get_or, Some, None, Option, sym, refl, ap, ◌∙◌, subst, arith}
+use Rattle.std.proofs.Common.{◌≡◌, ℕ, zero, suc, ◌<◌, ◌≤◌, Bool, true, false, ◌&&◌, ltb, List, [], ◌∷◌, length, get_or, Some, None, Ok, Err, Option, sym, refl, ap, ◌∙◌, subst, arith}
 use Rattle.std.proofs.lemmas.Bool.{lt-ltb, and_from}
 use Rattle.crossbox.specs.declared.Arrival.{Arrival}
 use Rattle.crossbox.specs.declared.Arrival.TheVariants.{Nothing, For}
 use Rattle.crossbox.specs.declared.Cell.{Cell}
+use Rattle.crossbox.specs.Cells.{Arrivals, is_in}
 use Rattle.crossbox.specs.Ideal.{first}
 use Rattle.crossbox.specs.Box.{Box, Stable, for_output, transfer}
 use Rattle.crossbox.specs.Matching.{find, with_kept}
@@ -14,15 +15,15 @@ use Rattle.matching.specs.declared.Found.{Found}
 use Rattle.matching.specs.Table.{Finds, first_for, shown, ended, picked}
 use Rattle.matching.specs.Table as table
 use Rattle.matching.proofs.Heads.{first_in}
-use Rattle.cioq.specs.State.{State, Good, Aimed}
-use Rattle.cioq.specs.Spells.{Spells, Counts, box_of}
-use Rattle.cioq.specs.Choice.{choice_of, named, also, picks, waits_in, all_wait, one_output}
-use Rattle.cioq.specs.Transfers.{transfer_all}
-use Rattle.cioq.proofs.Lists.{spelled-cells}
-use Rattle.cioq.proofs.Printed.{spelled_aimed}
-use Rattle.cioq.proofs.Judged.{taken, judged_stable}
-use Rattle.cioq.proofs.Transfers.{transferred_good}
-use Rattle.cioq.proofs.Transferred.{waits_there, transferred_spells, transferred_counts}
+use Rattle.steps.specs.State.{State, Good, Aimed}
+use Rattle.steps.specs.Spells.{Spells, Counts, cells, box_of}
+use Rattle.steps.specs.Choice.{choice_of, named, also, picks, waits_in, all_wait, one_output, judge_choice}
+use Rattle.steps.specs.Transfers.{transfer_all}
+use Rattle.steps.proofs.Lists.{spelled-cells}
+use Rattle.steps.proofs.Printed.{spelled_aimed}
+use Rattle.steps.proofs.Judged.{taken, judged_stable}
+use Rattle.steps.proofs.Transfers.{transferred_good}
+use Rattle.steps.proofs.Transferred.{waits_there, transferred_spells, transferred_counts}
 use Rattle.fabric.specs.Real.{gone, Tied}
 
 -- the cells that a choice names are one notion

@@ -1,7 +1,8 @@
 -- The model's box with the finding's choices is reached by a run; and cells in memory keep their bytes as slots are added.
-use Rattle.std.proofs.Common.{◌≡◌, ℕ, ◌<◌, Bool, true, ◌||◌, List, [], ◌∷◌, map, length, sym, ap, ◌∙◌}
+use Rattle.std.proofs.Common.{◌≡◌, ℕ, zero, suc, ◌<◌, ◌≤◌, Bool, true, false, ◌||◌, List, [], ◌∷◌, map, length, sym, refl, ap, ◌∙◌, subst, arith}
 use Rattle.std.specs.List.{AllByRecursion}
 use Rattle.std.proofs.lemmas.Bool.{or_right}
+use Rattle.std.proofs.ByRecursion.{All-weaker}
 use Rattle.crossbox.specs.declared.Cell.{Cell}
 use Rattle.crossbox.specs.Cells.{Arrivals, is_in, same}
 use Rattle.crossbox.specs.Box.{Box, Run, arrived}
@@ -11,12 +12,12 @@ use Rattle.crossbox.specs.Promise.{AllFit}
 use Rattle.crossbox.proofs.Promise.{found_in_run, found_in_run_again}
 use Rattle.crossbox.proofs.Shape.{Placed}
 use Rattle.crossbox.proofs.Cells.{same_refl}
-use Rattle.buffer.specs.Memory.{Mem}
-use Rattle.buffer.proofs.Put.{map_alike}
-use Rattle.cioq.specs.Spells.{Spells, dress}
+use Rattle.places.specs.Memory.{Mem, held}
+use Rattle.places.proofs.Put.{map_alike}
+use Rattle.steps.specs.Spells.{Spells, dress}
 use Rattle.switch.specs.Respond.{SlotIn, body_in}
 use Rattle.switch.proofs.History.{body_old}
-use Rattle.fabric.specs.Real.{box_after}
+use Rattle.fabric.specs.Real.{gone, box_after}
 
 -- the box with the finding's choices is reached by a run
 pub found-run : (n : ℕ) (past : List Arrivals) → AllFit n past → Run 256 n past (box_after n past)

@@ -1,25 +1,28 @@
 -- The laws of the real box that shows a status.
-use Rattle.std.proofs.Common.{◌≡◌, ℕ, zero, suc, ◌<◌, true, List, [], ◌∷◌, length, Some, None, Option, sym, refl, ap, ◌∙◌, subst, arith}
+use Rattle.std.proofs.Common.{◌≡◌, ℕ, zero, suc, ◌<◌, Bool, true, false, List, [], ◌∷◌, length, Some, None, Option, sym, refl, ap, ◌∙◌, subst, arith}
 use Rattle.std.proofs.lemmas.Bool.{and_from, lt-ltb}
 use Rattle.crossbox.specs.declared.Arrival.{Arrival}
+use Rattle.crossbox.specs.declared.Arrival.TheVariants.{Nothing, For}
 use Rattle.crossbox.specs.declared.Cell.{Cell}
+use Rattle.crossbox.specs.Cells.{Arrivals}
 use Rattle.crossbox.specs.Ideal.{first}
-use Rattle.crossbox.specs.Box.{Stable, for_output}
+use Rattle.crossbox.specs.Box.{Box, Stable, for_output}
 use Rattle.crossbox.specs.Matching.{find}
 use Rattle.crossbox.specs.Promise.{AllFit}
 use Rattle.crossbox.proofs.Promise.{found_in_run, found_in_run_again}
-use Rattle.buffer.specs.declared.Head.{Head}
-use Rattle.buffer.specs.Memory.{enough, fresh}
+use Rattle.places.specs.declared.Head.{Head}
+use Rattle.places.specs.Memory.{enough, fresh}
 use Rattle.matching.specs.Table.{shown, ended}
-use Rattle.cioq.specs.State.{State, unset}
-use Rattle.cioq.specs.Choice.{choice_of, waits_in, all_wait}
-use Rattle.cioq.proofs.Begun.{made_good}
-use Rattle.cioq.proofs.Judged.{judged_stable}
+use Rattle.steps.specs.State.{State, unset}
+use Rattle.steps.specs.Spells.{Spells}
+use Rattle.steps.specs.Choice.{choice_of, waits_in, all_wait, picks}
+use Rattle.steps.proofs.Begun.{made_good}
+use Rattle.steps.proofs.Judged.{judged_stable}
 use Rattle.switch.specs.Respond.{SlotIn, body_in}
 use Rattle.switch.specs.Respond as respond
 use Rattle.switch.specs.Respond.Status.{Unset}
-use Rattle.fabric.specs.Real.{box_after, Shows}
-use Rattle.fabric.specs.Laws.{at_first, TwoTransfers, ModelIsRun, FoundIsTaken}
+use Rattle.fabric.specs.Real.{gone, box_after, Shows}
+use Rattle.fabric.specs.Laws.{at_first, at_second, TwoTransfers, ModelIsRun, FoundIsTaken}
 use Rattle.fabric.proofs.History.{found-run}
 use Rattle.fabric.proofs.Choice.{picks_is}
 

@@ -5,3 +5,4 @@ pub mod Stages
 pub mod Slot
 pub mod Turns
 pub mod Laws
+pub mod Restarts

@@ -1,43 +1,45 @@
 -- A slot of the real box: the steps follow one another, and what comes of them is what the ideal box does.
-use Rattle.std.proofs.Common.{◌≡◌, ℕ, suc, ◌+◌, ◌*◌, ◌<◌, Bool, true, false, not, ◌&&◌, ltb, ◌⊎◌, List, [], ◌∷◌, map, length, get_or, take, Ok, sym, refl, ap, ◌∙◌, subst, inl, inr, ⊎_elim, arith}
+use Rattle.std.proofs.Common.{◌≡◌, ℕ, zero, suc, ◌+◌, ◌*◌, ◌<◌, ◌≤◌, Bool, true, false, cond, not, ◌&&◌, ltb, ◌⊎◌, List, [], ◌∷◌, map, length, get_or, take, Ok, sym, refl, ap, ◌∙◌, subst, inl, inr, ⊎_elim, arith}
 use Rattle.std.specs.List.{range_with_len}
 use Rattle.std.proofs.lemmas.List.{length-map}
 use Rattle.std.proofs.lemmas.Bool.{lt-ltb}
+use Rattle.crossbox.specs.declared.Arrival.{Arrival}
 use Rattle.crossbox.specs.declared.Arrival.TheVariants.{For}
+use Rattle.crossbox.specs.declared.Cell.{Cell}
 use Rattle.crossbox.specs.Cells.{Arrivals}
 use Rattle.crossbox.specs.Ideal.{departure, rejected}
-use Rattle.crossbox.specs.Box.{Box, Run, Stable, arrive, arrived, depart}
+use Rattle.crossbox.specs.Box.{Box, Run, Stable, arrive, arrived, departed, transfer, depart, room_for}
 use Rattle.crossbox.specs.Matching.{find}
 use Rattle.crossbox.specs.Promise.{Fits, AllFit}
 use Rattle.crossbox.specs.Shape.{InOrder}
 use Rattle.crossbox.proofs.Shape.{Placed, Directed, arriving_directed, transfer_directed}
 use Rattle.crossbox.proofs.Runs.{run_like, run_directed, arrived_like, transferred_like, departed_like, same-departures, same-rejected}
-use Rattle.crossbox.proofs.Promise.{found_in_run}
-use Rattle.buffer.specs.Lent.{lent_to, beyond}
-use Rattle.words.specs.Lines.{no_line, judge, verdict}
+use Rattle.crossbox.proofs.Promise.{found_in_run, found_in_run_again}
+use Rattle.places.specs.Lent.{Lent, lent_to, beyond}
+use Rattle.words.specs.Lines.{Line, no_line, judge, verdict}
 use Rattle.words.specs.Writing.{overwrite}
-use Rattle.words.specs.Answer.{Departure, Written}
+use Rattle.words.specs.Answer.{Departure, Written, leaving_all}
 use Rattle.ideal.proofs.Loops.{flags_all}
 use Rattle.matching.specs.declared.Found.{Found}
 use Rattle.matching.specs.Table.{Finds}
-use Rattle.cioq.specs.State.{State, Good, passed}
-use Rattle.cioq.specs.Spells.{Spells, Counts}
-use Rattle.cioq.specs.Arrivals.{arrivals_of, admit_all, away, slot_lines}
-use Rattle.cioq.specs.Departures.{depart_all, departing_bytes}
-use Rattle.cioq.specs.Choice.{choice_of}
-use Rattle.cioq.specs.Transfers.{transfer_all}
-use Rattle.cioq.specs.Kept.{PutThere}
-use Rattle.cioq.proofs.Arrivals.{all_lines, all_slots, all_good, slot_bring, AllBring}
-use Rattle.cioq.proofs.Arrived.{admitted_spells, admitted_counts, admitted-away}
-use Rattle.cioq.proofs.Stays.{arrivals_stay, transfer_stays, departures_stay}
-use Rattle.cioq.proofs.Bytes.{places_kept, transferred_cells, departed-cells}
+use Rattle.steps.specs.State.{State, Good, passed}
+use Rattle.steps.specs.Spells.{Spells, Counts}
+use Rattle.steps.specs.Arrivals.{arrivals_of, admit_all, away, slot_lines}
+use Rattle.steps.specs.Departures.{depart_all, departing_bytes}
+use Rattle.steps.specs.Choice.{choice_of}
+use Rattle.steps.specs.Transfers.{transfer_all}
+use Rattle.steps.specs.Kept.{PutThere}
+use Rattle.steps.proofs.Arrivals.{all_lines, all_slots, all_good, slot_bring, AllBring}
+use Rattle.steps.proofs.Arrived.{admitted_spells, admitted_counts, admitted-away}
+use Rattle.steps.proofs.Stays.{arrivals_stay, transfer_stays, departures_stay}
+use Rattle.steps.proofs.Bytes.{places_kept, transferred_cells, departed-cells}
 use Rattle.switch.specs.Respond.{SlotIn, body_in, slot_of, with_body}
 use Rattle.switch.specs.Respond as respond
 use Rattle.switch.proofs.History.{body_new}
 use Rattle.fabric.specs.Real.{gone, box_after, Runs}
 use Rattle.fabric.specs.Served.{Served}
 use Rattle.fabric.proofs.History.{found-run, spells_on}
-use Rattle.fabric.proofs.Stages.{Stage, stage_counted, stage_fits, stage_waits, transferred_stage, departed_stage, stage_bytes, brings_fit, bytes_are, departures_written}
+use Rattle.fabric.proofs.Stages.{Stage, stage_tied, stage_counted, stage_fits, stage_waits, transferred_stage, departed_stage, stage_bytes, brings_fit, bytes_are, departures_written}
 
 -- goodness does not depend on the number of slots
 any_time : (s : State) → Good s → Good (passed s)
@@ -55,6 +57,7 @@ any_time s g =
       heads_lent = g.heads_lent;
       cells_lent = g.cells_lent;
       spare_lent = g.spare_lent;
+      tabled = g.tabled;
     }
 
 not-not : (b : Bool) → not (not b) ≡ b

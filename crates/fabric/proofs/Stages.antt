@@ -1,34 +1,51 @@
 -- The steps of a slot of the real box, one after the other, each from what the step before it left.
-use Rattle.std.proofs.Common.{◌≡◌, ℕ, zero, suc, ◌+◌, true, List, [], ◌∷◌, ◌++◌, map, length, get_or, Some, None, Option, sym, refl, ap, ◌∙◌, subst, add-one, arith}
+use Rattle.std.proofs.Common.{◌≡◌, ℕ, zero, suc, ◌+◌, ◌*◌, ◌<◌, ◌≤◌, Bool, true, false, cond, not, ◌&&◌, ltb, ◌⊎◌, List, [], ◌∷◌, ◌++◌, map, length, get_or, take, Some, None, Ok, Option, sym, refl, ap, ◌∙◌, subst, inl, inr, ⊎_elim, add-one, arith}
 use Rattle.std.specs.List.{range_with_len}
-use Rattle.std.proofs.lemmas.List.{append-nil}
+use Rattle.std.proofs.lemmas.List.{length-map, append-nil}
 use Rattle.std.proofs.lemmas.List.FromFn.{map-range_with_len_more}
+use Rattle.std.proofs.lemmas.Bool.{lt-ltb}
 use Rattle.crossbox.specs.declared.Arrival.{Arrival}
+use Rattle.crossbox.specs.declared.Arrival.TheVariants.{Nothing, For}
 use Rattle.crossbox.specs.declared.Cell.{Cell}
-use Rattle.crossbox.specs.Box.{Box, depart, departs}
-use Rattle.crossbox.specs.Promise.{Fits}
+use Rattle.crossbox.specs.Cells.{Arrivals}
+use Rattle.crossbox.specs.Ideal.{departure, rejected, queue, admitted}
+use Rattle.crossbox.specs.Box.{Box, Run, Stable, arrived, transfer, depart, departs, room_for}
+use Rattle.crossbox.specs.Matching.{find}
+use Rattle.crossbox.specs.Promise.{Fits, AllFit}
 use Rattle.crossbox.specs.Shape.{InOrder}
-use Rattle.crossbox.proofs.Shape.{Placed, Directed}
-use Rattle.words.specs.Lines.{Line, no_line}
+use Rattle.crossbox.proofs.Shape.{Placed, Directed, arriving_directed, transfer_directed}
+use Rattle.crossbox.proofs.Runs.{run_like, run_directed, arrived_like, transferred_like, departed_like, same-departures, same-rejected}
+use Rattle.crossbox.proofs.Promise.{found_in_run, found_in_run_again}
+use Rattle.places.specs.Lent.{Lent, lent_to, beyond}
+use Rattle.words.specs.Lines.{Line, no_line, judge, verdict}
 use Rattle.words.specs.Writing.{overwrite}
 use Rattle.words.specs.Answer.{Departure, Written, leaving, leaving_all, flag_bytes, answer_bytes}
 use Rattle.words.proofs.Overwrites.{overwrite_then}
 use Rattle.words.proofs.Answered.{leaving_push}
+use Rattle.ideal.proofs.Loops.{flags_all}
 use Rattle.matching.specs.declared.Found.{Found}
 use Rattle.matching.specs.Table.{Finds}
-use Rattle.cioq.specs.State.{State, Good, Aimed, Counted}
-use Rattle.cioq.specs.Spells.{Spells, Counts, box_of}
-use Rattle.cioq.specs.Arrivals.{arrivals_of, Brings}
-use Rattle.cioq.specs.Departures.{depart_all, departing_bytes, departed_bytes, dressed}
-use Rattle.cioq.specs.Choice.{choice_of, all_wait}
-use Rattle.cioq.specs.Transfers.{transfer_all}
-use Rattle.cioq.proofs.Arrivals.{AllBring}
-use Rattle.cioq.proofs.Departures.{departed-lines, departed-slots, departed_good}
-use Rattle.cioq.proofs.Departed.{spelled_counted, departed_spells, departed_bytes_lem, departed_counts}
-use Rattle.cioq.proofs.Transfers.{transferred_lines, transferred_slots}
-use Rattle.switch.specs.Respond.{SlotIn, body_in, with_body}
-use Rattle.fabric.specs.Real.{gone, Tied}
-use Rattle.fabric.proofs.Choice.{tied, aimed, fits, waits, chosen_good, chosen_spells, chosen_counts}
+use Rattle.steps.specs.State.{State, Good, Aimed, Counted, passed}
+use Rattle.steps.specs.Spells.{Spells, Counts, box_of}
+use Rattle.steps.specs.Arrivals.{arrivals_of, admit_all, away, slot_lines, Brings}
+use Rattle.steps.specs.Departures.{depart_all, departing_bytes, departed_bytes, dressed}
+use Rattle.steps.specs.Choice.{choice_of, picks, all_wait}
+use Rattle.steps.specs.Transfers.{transfer_all}
+use Rattle.steps.specs.Kept.{PutThere, StaysWithin}
+use Rattle.steps.proofs.Arrivals.{all_lines, all_slots, all_good, slot_bring, AllBring}
+use Rattle.steps.proofs.Arrived.{admitted_spells, admitted_counts, admitted-away}
+use Rattle.steps.proofs.Departures.{departed-lines, departed-slots, departed_good}
+use Rattle.steps.proofs.Departed.{spelled_counted, departed_spells, departed_bytes_lem, departed_counts}
+use Rattle.steps.proofs.Transfers.{transferred_lines, transferred_slots}
+use Rattle.steps.proofs.Stays.{arrivals_stay, transfer_stays, departures_stay}
+use Rattle.steps.proofs.Bytes.{places_kept}
+use Rattle.switch.specs.Respond.{SlotIn, body_in, slot_of, with_body}
+use Rattle.switch.specs.Respond as respond
+use Rattle.switch.proofs.History.{counting_alike, body_new}
+use Rattle.fabric.specs.Real.{gone, box_after, Runs, Tied}
+use Rattle.fabric.specs.Served.{Served}
+use Rattle.fabric.proofs.Choice.{tied, aimed, fits, waits, stable, picks-found, chosen_good, chosen_spells, chosen_counts}
+use Rattle.fabric.proofs.History.{found-run, spells_on}
 
 -- a box in memory at a step of a slot, against the model's
 pub record Stage (B : Cell → List ℕ) (n t slots : ℕ) (s : State) (b : Box) : Type 0 where

@@ -1,28 +1,36 @@
 -- Each turn of the real box is what `respond` says of the ideal box.
-use Rattle.std.proofs.Common.{◌≡◌, ℕ, ◌*◌, ◌<◌, ◌≤◌, Bool, false, cond, eqb, leb, List, [], drop, Ok, Err, Option, Result, sym, refl, ap, ◌∙◌, subst, inl, inr, ⊎_elim, arith}
+use Rattle.std.proofs.Common.{◌≡◌, ℕ, ◌+◌, ◌*◌, ◌<◌, ◌≤◌, Bool, true, false, cond, not, eqb, leb, ◌⊎◌, List, [], ◌∷◌, length, get_or, drop, Some, None, Ok, Err, Option, Result, sym, refl, ap, ◌∙◌, subst, inl, inr, ⊎_elim, arith}
 use Rattle.std.proofs.lemmas.Bool.{ne_eqb, cond-false}
+use Rattle.crossbox.specs.Box.{Box, empty, room_for}
+use Rattle.crossbox.specs.Ideal.{rejected}
 use Rattle.crossbox.specs.Promise.{AllFit}
-use Rattle.buffer.specs.Lent.{Lent, lent_to, beyond}
+use Rattle.crossbox.proofs.Runs.{same-rejected}
+use Rattle.places.specs.Lent.{Lent, lent_to, beyond}
 use Rattle.words.specs.declared.fault.Fault.{Fault}
 use Rattle.words.specs.declared.fault.Fault.TheVariants.{Malformed, NoSuchOutput, SlotLimit}
 use Rattle.words.specs.declared.read.Kind.{Kind}
 use Rattle.words.specs.declared.read.Kind.TheVariants.{Settings, Slot, Choice, Unknown}
 use Rattle.words.specs.Kind.{kind_of}
-use Rattle.words.specs.Lines.{Line, settings, judge, judged, verdict}
+use Rattle.words.specs.Lines.{Line, settings, judge, judged, verdict, read_lines, all_fit}
 use Rattle.words.proofs.Scans.{verdict_good}
 use Rattle.words.specs.Writing.{overwrite, refusal_bytes}
-use Rattle.cioq.specs.State.{State, Good, begun}
-use Rattle.cioq.specs.Arrivals.{slot_lines, lines_or}
-use Rattle.cioq.proofs.Begun.{begun_good, begun_spells, begun_counts}
-use Rattle.cioq.proofs.Stays.{settings_stay}
-use Rattle.switch.specs.Respond.{Status, SlotIn, body_in, settings_verdict, slot_verdict, on_slot, by_kind, decide}
+use Rattle.steps.specs.State.{State, Good, begun}
+use Rattle.steps.specs.Spells.{Spells, Counts}
+use Rattle.steps.specs.Arrivals.{slot_lines, lines_or, away}
+use Rattle.steps.specs.Kept as kept
+use Rattle.steps.proofs.Begun.{begun_good, begun_spells, begun_counts}
+use Rattle.steps.proofs.Stays.{settings_stay}
+use Rattle.switch.specs.Respond.{Status, Verdict, SlotIn, body_in, slot_of, settings_verdict, slot_verdict, on_slot, by_kind, decide}
+use Rattle.switch.specs.Respond as respond
 use Rattle.switch.specs.Respond.Status.{Unset, Running}
-use Rattle.switch.specs.Respond.Verdict.{Refuse, Take}
+use Rattle.switch.specs.Respond.Verdict.{Refuse, Begin, Take}
+use Rattle.switch.specs.Promise.{PutThere}
 use Rattle.switch.proofs.Turns.{settings_range}
 use Rattle.switch.proofs.Turning.{Turn, turn_refused, turn_begun, turn_taken}
 use Rattle.fabric.specs.declared.Step.{Step}
 use Rattle.fabric.specs.declared.Step.TheVariants as step
 use Rattle.fabric.specs.Real.{box_after, Runs, Shows}
+use Rattle.fabric.specs.Served.{Served}
 use Rattle.fabric.specs.Turns.{Refused, Settled, Slotted, step_of}
 use Rattle.fabric.proofs.Slot.{away_is}
 

@@ -7,9 +7,9 @@ use Rattle.crossbox.specs.Promise.{AllFit}
 use Rattle.crossbox.specs.Shape.{WellPlaced}
 use Rattle.matching.specs.declared.Found.{Found}
 use Rattle.matching.specs.Table.{Finds}
-use Rattle.cioq.specs.State.{State}
-use Rattle.cioq.specs.Spells.{Spells}
-use Rattle.cioq.specs.Choice.{choice_of, judge_choice}
+use Rattle.steps.specs.State.{State}
+use Rattle.steps.specs.Spells.{Spells}
+use Rattle.steps.specs.Choice.{choice_of, judge_choice}
 use Rattle.switch.specs.Respond.{SlotIn, body_in}
 use Rattle.switch.specs.Respond as respond
 use Rattle.switch.specs.Respond.Status.{Running}

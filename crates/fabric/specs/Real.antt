@@ -1,13 +1,13 @@
 -- The real box with the finding's choices: the model's box after slots, and the box over lent memory that shows it. Assumes nothing.
-use Rattle.std.specs.Prelude.{◌≡◌, ℕ, ◌<◌, cond, List, [], ◌∷◌, length, take, ◌==◌, nat_lt}
+use Rattle.std.specs.Prelude.{◌≡◌, ℕ, ◌<◌, Bool, cond, eqb, ltb, List, [], ◌∷◌, length, take}
 use Rattle.crossbox.specs.declared.Cell.{Cell}
 use Rattle.crossbox.specs.Cells.{Arrivals}
 use Rattle.crossbox.specs.Box.{Box, empty, arrived, transfer, depart}
 use Rattle.crossbox.specs.Matching.{find}
 use Rattle.crossbox.specs.Promise.{AllFit}
 use Rattle.crossbox.specs.Shape.{WellPlaced, InOrder}
-use Rattle.cioq.specs.State.{State, Good}
-use Rattle.cioq.specs.Spells.{Spells, Counts, cells}
+use Rattle.steps.specs.State.{State, Good}
+use Rattle.steps.specs.Spells.{Spells, Counts, cells}
 use Rattle.switch.specs.Respond.{Status, SlotIn, body_in}
 use Rattle.switch.specs.Respond as respond
 use Rattle.switch.specs.Respond.Status.{Unset, Running}
@@ -42,7 +42,3 @@ pub record Tied (s : State) (b : Box) : Type 0 where
   pub lists : (i : ℕ) → i < s.lines → cells s.mem i ≡ b.waiting i
   pub placed : WellPlaced s.lines b
   pub order : InOrder b
-
--- the lists in memory, of the first i inputs whole and of input i its first k cells
-abbrev pub up_to : State → ℕ → ℕ → ℕ → List Cell
-up_to s i k j = cond (nat_lt j i) (cells s.mem j) (cond (j == i) (take k (cells s.mem j)) [])

@@ -1,12 +1,13 @@
 -- What a slot of the real box leaves and answers. Assumes nothing.
-use Rattle.std.specs.Prelude.{◌≡◌, ℕ, ◌*◌, ◌⊎◌, List, [], ◌∷◌, map, slice_index_or}
+use Rattle.std.specs.Prelude.{◌≡◌, ℕ, ◌*◌, ◌⊎◌, List, [], ◌∷◌, map, length, slice_index_or}
 use Rattle.std.specs.List.{range_with_len}
 use Rattle.crossbox.specs.Ideal.{departure, rejected}
-use Rattle.buffer.specs.Lent.{lent_to, beyond}
+use Rattle.places.specs.Lent.{Lent, lent_to, beyond}
 use Rattle.words.specs.Answer.{Written}
 use Rattle.words.specs.Lines.{Line}
-use Rattle.cioq.specs.State.{State}
-use Rattle.cioq.specs.Kept.{PutThere}
+use Rattle.steps.specs.State.{State}
+use Rattle.steps.specs.Arrivals.{slot_lines}
+use Rattle.steps.specs.Kept.{PutThere}
 use Rattle.switch.specs.Respond.{SlotIn, arrived, slot_of, with_body}
 use Rattle.fabric.specs.Real.{Runs}
 

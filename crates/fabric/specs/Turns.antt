@@ -3,8 +3,8 @@ use Rattle.std.specs.Prelude.{◌≡◌, ℕ, cond, List, Ok, Err, Result, ◌==
 use Rattle.words.specs.declared.fault.Fault.{Fault}
 use Rattle.words.specs.Lines.{Line}
 use Rattle.words.specs.Writing.{overwrite, refusal_bytes}
-use Rattle.cioq.specs.State.{State, begun}
-use Rattle.cioq.specs.Arrivals.{slot_lines}
+use Rattle.steps.specs.State.{State, begun}
+use Rattle.steps.specs.Arrivals.{slot_lines}
 use Rattle.switch.specs.Respond.{SlotIn}
 use Rattle.fabric.specs.declared.Step.{Step}
 use Rattle.fabric.specs.declared.Step.TheVariants as step

@@ -3,23 +3,24 @@
 
 ghost use Rattle.std.specs.Prelude.{◌≡◌, ℕ, ◌+◌, ◌^◌, ◌<◌, ◌≤◌, true, false, List, [], length, Ok, MatchOption, nat_le};
 ghost use Rattle.crossbox.specs.Box.{Box};
-ghost use Rattle.matching.specs.Making.{TableOf};
 ghost use Rattle.matching.specs.Table.{Finds};
-ghost use Rattle.cioq.specs.Arrivals.{slot_lines};
-ghost use Rattle.cioq.specs.State.{state, Good, Aimed, unset};
-ghost use Rattle.buffer.specs.Memory.{enough, fresh};
+ghost use Rattle.steps.specs.Arrivals.{slot_lines};
+ghost use Rattle.steps.specs.State.{Good};
+ghost use Rattle.cioq.specs.View.{state};
+ghost use Rattle.places.specs.Memory.{enough, fresh, lent_enough};
 ghost use Rattle.words.specs.Lines.{settings, judge, verdict};
 ghost use Rattle.switch.specs.Respond.{SlotIn};
 ghost use Rattle.switch.specs.Respond.Status.{Unset};
-ghost use Rattle.buffer.specs.Lent.{lent_to};
-ghost use Rattle.fabric.specs.Real.{Tied, Runs, Shows, up_to};
+ghost use Rattle.places.specs.Lent.{lent_to};
+ghost use Rattle.fabric.specs.Real.{Tied, Runs, Shows};
 ghost use Rattle.fabric.specs.Laws.{TwoTransfers, FoundIsTaken, ModelIsRun};
 ghost use Rattle.fabric.specs.Turns.{Settled, Slotted, step_of};
 ghost use Rattle.fabric.specs.Served.{Served};
 
 use buffer::Head;
 use cioq::RealBox;
-use matching::{Firsts, Found, find};
+use firsts::Firsts;
+use matching::{Found, find};
 use switch::Switch;
 use words::{
     ANSWER, BODY, Fault, Kind, judge_lines, read_settings, write_byte, write_flags, write_refusal,
@@ -35,43 +36,20 @@ enum Step {
     Slot,
 }
 
-// The real box, and the table in which a choice is sought.
+// The real box, whose choices are found.
+#[repr(C)]
 #[derive(Drop)]
 pub struct Fabric<'a> {
     real: RealBox<'a>,
-    firsts: Firsts,
-}
-
-// Notes the list of an input in the table.
-fn scan(real: &RealBox<'_>, firsts: &mut Firsts, input: u8)
-    requires good { Good (state real.now) × Aimed (state real.now) }
-    requires there { input < (state real.now).lines }
-    ensures { TableOf firsts.old (up_to (state real.entry.now) input 0) → TableOf firsts.new (up_to (state real.entry.now) (input + 1) 0) }
-{
-    for k in 0..real.waiting(input) {
-        firsts.note(input, k as u16, real.waiting_cell(input, k));
-    }
-}
-
-// Makes the table of the first cell of each pair.
-fn tabulate(real: &RealBox<'_>, firsts: &mut Firsts)
-    requires { Good (state real.now) × Aimed (state real.now) }
-    ensures { TableOf firsts.new (up_to (state real.entry.now) (state real.entry.now).lines 0) }
-{
-    firsts.clear();
-    for input in 0..real.lines() {
-        scan(real, firsts, input);
-    }
 }
 
 // Finds the choice that is transferred.
-fn choose(real: &RealBox<'_>, firsts: &mut Firsts) -> Found
-    requires good { Good (state real.now) × Aimed (state real.now) }
+fn choose(real: &RealBox<'_>) -> Found
+    requires good { Good (state real.now) }
     requires tied { (b : Box) × Tied (state real.now) b }
     ensures { (b : Box) → Tied (state real.entry.now) b → Finds result (state real.entry.now).lines b }
 {
-    tabulate(real, firsts);
-    find(firsts, real.lines())
+    find(real.firsts(), real.lines())
 }
 
 impl<'a> Fabric<'a> {
@@ -81,14 +59,12 @@ impl<'a> Fabric<'a> {
         cells: &'a mut [[u8; 64]],
         rows: &'a mut [u16],
         spare: &'a mut [u16],
+        firsts: &'a mut Firsts,
     ) -> Option<Fabric<'a>>
         ensures { MatchOption result (enough 64 8224 heads.old cells.old rows.old spare.old ≡ false) (λ b. (enough 64 8224 heads.old cells.old rows.old spare.old ≡ true) × Shows (state b.real) Unset × ((state b.real).mem ≡ fresh 64 8224 heads.old cells.old rows.old spare.old)) }
     {
-        match RealBox::new(heads, cells, rows, spare) {
-            Some(real) => Some(Fabric {
-                real,
-                firsts: Firsts::new(),
-            }),
+        match RealBox::new(heads, cells, rows, spare, firsts) {
+            Some(real) => Some(Fabric { real }),
             None => None,
         }
     }
@@ -101,11 +77,11 @@ impl<'a> Fabric<'a> {
         ensures { (past : List SlotIn) → Runs (state self.old.real) (state self.old.real).lines past → Served (state self.old.real) (state self.new.real) past (slot_lines (state self.old.real).lines lines.now) result out.old out.new }
     {
         let turned_away = self.real.arrive(lines);
-        let first = choose(&self.real, &mut self.firsts);
+        let first = choose(&self.real);
         self.real.transfer(&first.choice);
         let begun = write_byte(out, 0, ANSWER);
         let left = self.real.depart(out, begun);
-        let second = choose(&self.real, &mut self.firsts);
+        let second = choose(&self.real);
         self.real.transfer(&second.choice);
         self.real.pass();
         write_flags(out, left, self.real.lines(), &turned_away)
@@ -155,6 +131,12 @@ impl Switch for Fabric<'_> {
     ghost lent = { λ b. lent_to (state b.real).mem };
 
     ghost width = { λ b. 16448 };
+
+    ghost suffices = { λ b. lent_enough 64 8224 (state b.real).mem };
+
+    fn restart(&mut self) -> bool {
+        self.real.renew()
+    }
 
     fn answer(&mut self, word: &[u8], out: &mut [u8; 2241]) -> usize {
         match (ready_for(self), Kind::of(word)) {

@@ -1,30 +1,41 @@
 -- Each step of a slot keeps the box good.
-use Rattle.std.proofs.Common.{◌≡◌, ℕ, zero, suc, ◌+◌, ◌-◌, ◌*◌, ◌<◌, ◌≤◌, Bool, true, false, cond, eqb, ltb, List, length, get_or, sym, refl, ◌∙◌, subst, inl, inr, arith}
-use Rattle.std.proofs.lemmas.List.{length-set, get_or-set_other, get_or-replicate, length-append, length-replicate, length-drop}
+use Rattle.std.proofs.Common.{◌≡◌, ℕ, zero, suc, ◌+◌, ◌-◌, ◌*◌, ◌<◌, ◌≤◌, Bool, true, false, cond, eqb, ltb, ◌⊎◌, List, [], length, get_or, set, Some, None, sym, refl, ap, ◌∙◌, subst, inl, inr, arith}
+use Rattle.std.proofs.lemmas.List.{length-set, get_or-set_same, get_or-set_other, get_or-replicate, length-append, length-replicate, length-drop}
 use Rattle.std.proofs.lemmas.List.FromFn.{length-range_with_len}
-use Rattle.std.proofs.lemmas.Bool.{cases_Bool, ltb-true, eqb-false}
+use Rattle.std.proofs.lemmas.Bool.{cases_Bool, cases_eq, ltb-true, eqb-false, cond-true, cond-false}
 use Rattle.crossbox.specs.declared.Arrival.{Arrival}
 use Rattle.crossbox.specs.declared.Arrival.TheVariants.{Nothing, For}
 use Rattle.crossbox.specs.declared.Cell.{Cell}
-use Rattle.buffer.specs.declared.Head.{Head}
-use Rattle.buffer.specs.Memory.{Mem, row_length, put, remove, fresh, enough}
-use Rattle.buffer.proofs.Put.{put_sound}
-use Rattle.buffer.proofs.Remove.{remove_sound}
-use Rattle.buffer.proofs.Reset.{reset_sound, fresh_sound, lent_enough_lem}
+use Rattle.places.specs.declared.Head.{Head}
+use Rattle.places.specs.Memory.{Mem, Sound, row_length, put, remove, fresh, enough}
+use Rattle.places.proofs.Put.{put_sound}
+use Rattle.places.proofs.Remove.{remove_sound}
+use Rattle.places.proofs.Reset.{reset_sound, fresh_sound, lent_enough_lem}
 use Rattle.words.specs.Lines.{Line, no_line, fits}
 use Rattle.words.specs.Spelling.{Formed}
 use Rattle.words.proofs.Lines.{lines-length, lines_formed, formed_at, fits_at}
 use Rattle.ideal.specs.State.{State, Good, unset, begun}
-use Rattle.ideal.specs.Steps.{Brings, Reads, lines_of, admit_in, admit_all, depart_one, depart_all}
+use Rattle.ideal.specs.Steps.{Brings, Reads, lines_of, admit_in, admit_one, admit_all, admitted, depart_one, departing, depart_all}
 use Rattle.ideal.proofs.Room.{place_left}
 
 -- a box with another memory of the same lines
 abbrev pub with : State → Mem → State
 with s m = record { mem = m; lines = s.lines; slots = s.slots }
 
+-- one length changed within 256 leaves the others
+changed : (lens : List ℕ) (o x : ℕ) → o < length lens → x ≤ 256 → ((r : ℕ) → r < 64 → get_or lens r 0 ≤ 256) → (r : ℕ) → r < 64 → get_or (set lens o x) r 0 ≤ 256
+changed lens o x l h f r i =
+    elim (cases_eq r o) [
+      | inl e ↦ subst (λ (z : ℕ). get_or (set lens o x) z 0 ≤ 256) (sym e) (omega (arith, get_or-set_same lens o x 0 l))
+      | inr ne ↦ omega (arith, get_or-set_other lens o r x 0 ne, f r i)
+    ]
+
 module _ (s : State) (g : Good s) (o : ℕ) (h : o < s.lines) where
   count_in : o < s.mem.count
   count_in = omega (arith, g.few, g.queues)
+
+  lens-in : o < length s.mem.lens
+  lens-in = omega (arith, g.few, g.sound.shaped.lens_count)
 
   pub put_good : (c : Cell) (body : List ℕ) → row_length s.mem o < 256 → Good (with s (put o (row_length s.mem o) c body s.mem))
   put_good c body lt =
@@ -35,6 +46,7 @@ module _ (s : State) (g : Good s) (o : ℕ) (h : o < s.lines) where
         places = g.places;
         few = g.few;
         idle = λ r l i. get_or-set_other s.mem.lens o r (row_length s.mem o + 1) 0 (λ e. omega arith) ∙ g.idle r l i;
+        full = changed s.mem.lens o (row_length s.mem o + 1) lens-in (omega arith) g.full;
         heads_lent = simp length-set g.heads_lent;
         cells_lent = simp length-set g.cells_lent;
         spare_lent = g.spare_lent;
@@ -49,6 +61,7 @@ module _ (s : State) (g : Good s) (o : ℕ) (h : o < s.lines) where
         places = g.places;
         few = g.few;
         idle = λ r l i. get_or-set_other s.mem.lens o r (row_length s.mem o - 1) 0 (λ e. omega arith) ∙ g.idle r l i;
+        full = changed s.mem.lens o (row_length s.mem o - 1) lens-in (omega (arith, g.full o (omega (arith, g.few)))) g.full;
         heads_lent = simp length-set g.heads_lent;
         cells_lent = g.cells_lent;
         spare_lent = simp length-set g.spare_lent;
@@ -115,22 +128,24 @@ begun_good s n g h =
       queues = g.queues;
       places = refl;
       few = h;
-      idle = λ r l i. get_or-replicate {A = ℕ} s.mem.count r 0 0 (omega (arith, g.queues));
+      idle = λ r l i. get_or-replicate {A = ℕ} 64 r 0 0 i;
+      full = λ r i. omega (arith, get_or-replicate {A = ℕ} 64 r 0 0 i);
       heads_lent = simp (length-append, length-replicate, length-drop) (omega (arith, g.heads_lent));
       cells_lent = g.cells_lent;
       spare_lent = simp (length-append, length-range_with_len, length-drop) (omega (arith, g.spare_lent));
     }
 
-pub unset_good : (heads : List Head) (cells : List (List ℕ)) (rows spare : List ℕ) → enough 32 256 heads cells rows spare ≡ true → Good (unset (fresh 32 256 heads cells rows spare))
+pub unset_good : (heads : List Head) (cells : List (List ℕ)) (rows spare : List ℕ) → enough 32 512 heads cells rows spare ≡ true → Good (unset (fresh 32 512 heads cells rows spare))
 unset_good heads cells rows spare e =
     record {
-      sound = fresh_sound 32 256 heads cells rows spare e;
+      sound = fresh_sound 32 512 heads cells rows spare (omega arith) e (omega arith);
       rooms = refl;
       queues = refl;
       places = refl;
       few = omega arith;
-      idle = λ r l i. get_or-replicate {A = ℕ} 32 r 0 0 i;
-      heads_lent = (lent_enough_lem 32 256 heads cells rows spare e).0;
-      cells_lent = (lent_enough_lem 32 256 heads cells rows spare e).1;
-      spare_lent = (lent_enough_lem 32 256 heads cells rows spare e).2;
+      idle = λ r l i. get_or-replicate {A = ℕ} 64 r 0 0 i;
+      full = λ r i. omega (arith, get_or-replicate {A = ℕ} 64 r 0 0 i);
+      heads_lent = (lent_enough_lem 32 512 heads cells rows spare (omega arith) e).0;
+      cells_lent = (lent_enough_lem 32 512 heads cells rows spare (omega arith) e).1;
+      spare_lent = (lent_enough_lem 32 512 heads cells rows spare (omega arith) e).2;
     }

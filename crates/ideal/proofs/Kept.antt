@@ -1,51 +1,52 @@
 -- A slot stays within what the settings need, and changes a place's bytes only where it puts a cell.
-use Rattle.std.proofs.Common.{◌≡◌, ℕ, zero, suc, ◌+◌, ◌*◌, ◌<◌, ◌≤◌, Bool, true, false, cond, not, eqb, ltb, ◌⊎◌, List, [], length, get_or, set, sym, refl, ap, ◌∙◌, subst, inl, inr, ⊎_elim, mul-le-mul_right, suc-mul, arith}
+use Rattle.std.proofs.Common.{◌≡◌, ℕ, zero, suc, ◌+◌, ◌-◌, ◌*◌, ◌<◌, ◌≤◌, Bool, true, false, cond, not, eqb, ltb, ◌⊎◌, List, [], ◌∷◌, length, get_or, set, sym, refl, ap, ◌∙◌, subst, inl, inr, ⊎_elim, mul-le-mul_right, suc-mul, arith}
 use Rattle.std.proofs.lemmas.List.{get_or-set_same, get_or-set_other}
 use Rattle.std.proofs.lemmas.Bool.{cases_Bool, cases_eq, ltb-true}
 use Rattle.crossbox.specs.declared.Arrival.{Arrival}
 use Rattle.crossbox.specs.declared.Arrival.TheVariants.{Nothing, For}
 use Rattle.crossbox.specs.declared.Cell.{Cell}
-use Rattle.buffer.specs.declared.Head.{Head}
-use Rattle.buffer.specs.Memory.{Mem, head_at, row_length, next, put, remove}
-use Rattle.buffer.specs.Lent.{lent_to, beyond, within}
-use Rattle.buffer.proofs.Safety.{next_in}
-use Rattle.buffer.proofs.Put.{next_owned, head_there, head_elsewhere}
-use Rattle.buffer.proofs.Within.{put-beyond, put-within, remove-beyond, remove-within, reset-beyond, reset-within}
+use Rattle.places.specs.declared.Head.{Head}
+use Rattle.places.specs.Head.{vacant, head_of}
+use Rattle.places.specs.Memory.{Mem, head_at, row_length, next, put, remove}
+use Rattle.places.specs.Lent.{Lent, lent_to, beyond, within}
+use Rattle.places.proofs.Safety.{next_in}
+use Rattle.places.proofs.Put.{next_owned, head_there, head_elsewhere}
+use Rattle.places.proofs.Within.{put-beyond, put-within, remove-beyond, remove-within, reset-beyond, reset-within}
 use Rattle.words.specs.Lines.{Line, no_line}
-use Rattle.ideal.specs.State.{State, Good}
-use Rattle.ideal.specs.Steps.{Brings, lines_of, turned_away, admit_in, admit_all, depart_one, depart_all}
-use Rattle.ideal.specs.Kept.{PutThere, SlotStaysWithin, SettingsStayWithin, PlacesKept}
+use Rattle.ideal.specs.State.{State, Good, begun}
+use Rattle.ideal.specs.Steps.{Brings, Reads, lines_of, turned_away, admit_in, admit_all, away, depart_one, depart_all, served}
+use Rattle.ideal.specs.Kept.{cut, PutThere, SlotStaysWithin, SettingsStayWithin, PlacesKept}
 use Rattle.ideal.proofs.Room.{place_left}
 use Rattle.ideal.proofs.Good.{with, Bring, bring_at, reads_bring, admit_all_good, depart_all_good, not-zero}
 
 -- a memory of n lines stays within them, and what it becomes does not depend on the rest
 pub record Within (n : ℕ) (f : Mem → Mem) (m : Mem) : Type 0 where
-  pub left : beyond (257 * n) (256 * n) (lent_to (f m)) ≡ beyond (257 * n) (256 * n) (lent_to m)
-  pub read : within (257 * n) (256 * n) (f m) ≡ f (within (257 * n) (256 * n) m)
+  pub left : beyond (257 * n) (512 * n) (lent_to (f m)) ≡ beyond (257 * n) (512 * n) (lent_to m)
+  pub read : within (257 * n) (512 * n) (f m) ≡ f (within (257 * n) (512 * n) m)
 
 module _ (s : State) (g : Good s) (o : ℕ) (h : o < s.lines) where
   in_count : o < s.mem.count
   in_count = omega (arith, g.few, g.queues)
 
-  in_span : o * s.mem.room + s.mem.room ≤ 256 * s.lines
+  in_span : o * s.mem.room + s.mem.room ≤ 512 * s.lines
   in_span =
       let l : suc o ≤ s.lines = omega arith in
-      subst (λ (r : ℕ). o * r + r ≤ 256 * s.lines) (sym g.rooms) (omega (arith, suc-mul o 256, mul-le-mul_right 256 l))
+      subst (λ (r : ℕ). o * r + r ≤ 512 * s.lines) (sym g.rooms) (omega (arith, suc-mul o 512, mul-le-mul_right 512 l))
 
   put_stays : (c : Cell) (body : List ℕ) → row_length s.mem o < 256 → Within s.lines (λ m. put o (row_length m o) c body m) s.mem
   put_stays c body lt =
       let few : row_length s.mem o < s.mem.room = omega (arith, g.rooms) in
       let some = place_left s g (omega arith) in
       record {
-        left = subst (λ (p : ℕ). beyond p (256 * s.lines) (lent_to (put o (row_length s.mem o) c body s.mem)) ≡ beyond p (256 * s.lines) (lent_to s.mem)) g.places (put-beyond s.mem o (row_length s.mem o) (256 * s.lines) g.sound in_count in_span c body (omega arith) few some);
-        read = subst (λ (p : ℕ). within p (256 * s.lines) (put o (row_length s.mem o) c body s.mem) ≡ put o (row_length s.mem o) c body (within p (256 * s.lines) s.mem)) g.places (put-within s.mem o (row_length s.mem o) (256 * s.lines) g.sound in_count in_span c body (omega arith) few some);
+        left = subst (λ (p : ℕ). beyond p (512 * s.lines) (lent_to (put o (row_length s.mem o) c body s.mem)) ≡ beyond p (512 * s.lines) (lent_to s.mem)) g.places (put-beyond s.mem o (row_length s.mem o) (512 * s.lines) g.sound in_count in_span c body (omega arith) few some);
+        read = subst (λ (p : ℕ). within p (512 * s.lines) (put o (row_length s.mem o) c body s.mem) ≡ put o (row_length s.mem o) c body (within p (512 * s.lines) s.mem)) g.places (put-within s.mem o (row_length s.mem o) (512 * s.lines) g.sound in_count in_span c body (omega arith) few some);
       }
 
   remove_stays : 0 < row_length s.mem o → Within s.lines (remove o 0) s.mem
   remove_stays lt =
       record {
-        left = subst (λ (p : ℕ). beyond p (256 * s.lines) (lent_to (remove o 0 s.mem)) ≡ beyond p (256 * s.lines) (lent_to s.mem)) g.places (remove-beyond s.mem o 0 (256 * s.lines) g.sound in_count in_span lt);
-        read = subst (λ (p : ℕ). within p (256 * s.lines) (remove o 0 s.mem) ≡ remove o 0 (within p (256 * s.lines) s.mem)) g.places (remove-within s.mem o 0 (256 * s.lines) g.sound in_count in_span lt);
+        left = subst (λ (p : ℕ). beyond p (512 * s.lines) (lent_to (remove o 0 s.mem)) ≡ beyond p (512 * s.lines) (lent_to s.mem)) g.places (remove-beyond s.mem o 0 (512 * s.lines) g.sound in_count in_span lt);
+        read = subst (λ (p : ℕ). within p (512 * s.lines) (remove o 0 s.mem) ≡ remove o 0 (within p (512 * s.lines) s.mem)) g.places (remove-within s.mem o 0 (512 * s.lines) g.sound in_count in_span lt);
       }
 
 same_stays : (n : ℕ) (m : Mem) → Within n (λ x. x) m
@@ -55,8 +56,8 @@ same_stays n m = record { left = refl; read = refl }
 choice_stays : (n : ℕ) (m : Mem) (w : List ℕ → Bool) (f k : Mem → Mem) → (w m.lens ≡ true → Within n f m) → (w m.lens ≡ false → Within n k m) → Within n (λ x. cond (w x.lens) (f x) (k x)) m
 choice_stays n m w f k a b =
     elim (cases_Bool (w m.lens)) [
-      | inl e ↦ record { left = subst (λ v. beyond (257 * n) (256 * n) (lent_to (cond v (f m) (k m))) ≡ beyond (257 * n) (256 * n) (lent_to m)) (sym e) (a e).left; read = subst (λ v. within (257 * n) (256 * n) (cond v (f m) (k m)) ≡ cond v (f (within (257 * n) (256 * n) m)) (k (within (257 * n) (256 * n) m))) (sym e) (a e).read }
-      | inr e ↦ record { left = subst (λ v. beyond (257 * n) (256 * n) (lent_to (cond v (f m) (k m))) ≡ beyond (257 * n) (256 * n) (lent_to m)) (sym e) (b e).left; read = subst (λ v. within (257 * n) (256 * n) (cond v (f m) (k m)) ≡ cond v (f (within (257 * n) (256 * n) m)) (k (within (257 * n) (256 * n) m))) (sym e) (b e).read }
+      | inl e ↦ record { left = subst (λ v. beyond (257 * n) (512 * n) (lent_to (cond v (f m) (k m))) ≡ beyond (257 * n) (512 * n) (lent_to m)) (sym e) (a e).left; read = subst (λ v. within (257 * n) (512 * n) (cond v (f m) (k m)) ≡ cond v (f (within (257 * n) (512 * n) m)) (k (within (257 * n) (512 * n) m))) (sym e) (a e).read }
+      | inr e ↦ record { left = subst (λ v. beyond (257 * n) (512 * n) (lent_to (cond v (f m) (k m))) ≡ beyond (257 * n) (512 * n) (lent_to m)) (sym e) (b e).left; read = subst (λ v. within (257 * n) (512 * n) (cond v (f m) (k m)) ≡ cond v (f (within (257 * n) (512 * n) m)) (k (within (257 * n) (512 * n) m))) (sym e) (b e).read }
     ]
 
 admit_stays : (s : State) (t i : ℕ) (x : Arrival) (body : List ℕ) → Good s → Brings s.lines x body → Within s.lines (admit_in t i x body) s.mem
@@ -102,8 +103,8 @@ pub settings_stay : SettingsStayWithin
 settings_stay s n g h =
     let hs : 257 * n ≤ length s.mem.heads = omega (arith, g.heads_lent) in
     let ss : 257 * n ≤ length s.mem.spare = omega (arith, g.spare_lent) in (
-      reset-beyond s.mem (257 * n) hs ss (256 * n),
-      ap (λ (m : Mem). record { mem = m; lines = n; slots = 0 }) (reset-within s.mem (257 * n) hs ss (256 * n)),
+      reset-beyond s.mem (257 * n) hs ss (512 * n),
+      ap (λ (m : Mem). record { mem = m; lines = n; slots = 0 }) (reset-within s.mem (257 * n) hs ss (512 * n)),
     )
 
 -- departures change no bytes

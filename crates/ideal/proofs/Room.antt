@@ -1,9 +1,10 @@
 -- Where there are lines, a place is free.
-use Rattle.std.proofs.Common.{◌+◌, ◌-◌, ◌*◌, ◌<◌, ◌≤◌, min, length, take, drop, sum, subst, mul-le-mul_right, arith}
+use Rattle.std.proofs.Common.{◌≡◌, ℕ, ◌+◌, ◌-◌, ◌*◌, ◌<◌, ◌≤◌, min, List, length, get_or, take, drop, sum, sym, refl, ap, ◌∙◌, subst, mul-le-mul_right, arith}
 use Rattle.std.specs.List.{AllByRecursion}
 use Rattle.std.proofs.lemmas.List.{length-take, length-drop, get_or-take, get_or-drop}
 use Rattle.std.proofs.ByRecursion.{All-from_get_or, sum_by_le}
 use Rattle.std.proofs.lemmas.List.Sums.{sum_by-take-drop}
+use Rattle.places.specs.Memory.{Mem, Sound, row_length}
 use Rattle.ideal.specs.State.{State, Good}
 
 module _ (s : State) (g : Good s) where
@@ -14,8 +15,8 @@ module _ (s : State) (g : Good s) where
       let l : i < min s.lines (length s.mem.lens) = subst (λ k. i < k) (length-take s.lines s.mem.lens) h in
       let j : i < s.lines = omega arith in
       let e = get_or-take s.lines s.mem.lens i 0 j in
-      let u = g.sound.short i (omega (arith, g.few, g.queues)) in
-      omega (arith, g.rooms))
+      let u = g.full i (omega (arith, g.few)) in
+      omega arith)
 
   no_rows : AllByRecursion (λ x. x ≤ 0) (drop s.lines s.mem.lens)
   no_rows =
@@ -23,7 +24,7 @@ module _ (s : State) (g : Good s) where
       (λ i h.
       let l : i < length s.mem.lens - s.lines = subst (λ k. i < k) (length-drop s.lines s.mem.lens) h in
       let e = get_or-drop s.lines s.mem.lens i 0 in
-      let u = g.idle (s.lines + i) (omega arith) (omega (arith, g.sound.lens_count, g.queues)) in
+      let u = g.idle (s.lines + i) (omega arith) (omega (arith, g.sound.shaped.lens_count, g.queues)) in
       omega arith)
 
   -- the queues hold at most 256 cells for each line

@@ -1,5 +1,5 @@
 -- The steps of a slot in memory against the model: queues that spell the model's go on to spell them.
-use Rattle.std.proofs.Common.{◌≡◌, ℕ, zero, suc, ◌<◌, ◌≤◌, Bool, true, false, cond, not, eqb, ltb, List, [], ◌∷◌, ◌++◌, map, length, get_or, take, drop, Some, None, Option, sym, refl, ap, ◌∙◌, subst, inl, inr, add-one, arith}
+use Rattle.std.proofs.Common.{◌≡◌, ℕ, zero, suc, ◌+◌, ◌-◌, ◌*◌, ◌<◌, ◌≤◌, Bool, true, false, cond, not, eqb, ltb, ◌⊎◌, List, [], ◌∷◌, ◌++◌, map, length, get_or, take, drop, set, Some, None, Option, sym, refl, ap, ◌∙◌, subst, inl, inr, add-one, arith}
 use Rattle.std.specs.List.{insert, remove as removed, range_with_len}
 use Rattle.std.proofs.lemmas.List.{append-nil, length-map, map_push, take_all, drop_all, get_or-map}
 use Rattle.std.proofs.lemmas.Bool.{cases_Bool, cases_eq, cond-true, cond-false, eq-eqb, ne_eqb, ltb-true, eqb-true, le-ltb, lt-ltb}
@@ -8,11 +8,12 @@ use Rattle.std.proofs.lemmas.List.FromFn.{map-range_with_len_more}
 use Rattle.crossbox.specs.declared.Arrival.{Arrival}
 use Rattle.crossbox.specs.declared.Arrival.TheVariants.{Nothing, For}
 use Rattle.crossbox.specs.declared.Cell.{Cell}
+use Rattle.crossbox.specs.Cells.{Arrivals}
 use Rattle.crossbox.specs.Ideal.{cells_for, admit, admitted, rest, first}
-use Rattle.buffer.specs.Memory.{Held, held, held_at, row, row_length, place_at, put, remove}
-use Rattle.buffer.proofs.Safety.{row-length, row_at}
-use Rattle.buffer.proofs.Put.{put-held, put-held_other}
-use Rattle.buffer.proofs.Remove.{remove-held, remove-held_other}
+use Rattle.places.specs.Memory.{Mem, Held, held, held_at, row, row_length, place_at, put, remove}
+use Rattle.places.proofs.Safety.{row-length, row_at}
+use Rattle.places.proofs.Put.{put-held, put-held_other}
+use Rattle.places.proofs.Remove.{remove-held, remove-held_other}
 use Rattle.words.specs.Lines.{Line, no_line}
 use Rattle.words.specs.Answer.{Departure}
 use Rattle.ideal.specs.State.{State, Good}

@@ -2,10 +2,10 @@
 #![tactic(auto)]
 
 ghost use Rattle.std.specs.Prelude.{◌≡◌, ℕ, ◌+◌, ◌*◌, ◌^◌, ◌<◌, ◌≤◌, true, false, List, [], length, MatchOption, slice_index_or};
-ghost use Rattle.buffer.specs.Memory.{enough, fresh};
+ghost use Rattle.places.specs.Memory.{enough, fresh, lent_enough};
 ghost use Rattle.words.specs.Writing.{overwrite};
 ghost use Rattle.ideal.specs.Kept.{SlotStaysWithin, SettingsStayWithin, PlacesKept};
-ghost use Rattle.ideal.specs.State.{State, state, Good, unset, begun};
+ghost use Rattle.ideal.specs.State.{State, state, Good, unset, renewed, begun};
 ghost use Rattle.ideal.specs.Steps.{Brings, Reads, lines_of, admit_one, admitted, away, turned_away, departing, departed, departure_of, departures, served, leavers, rejects};
 ghost use Rattle.words.specs.Answer.{Departure, Written, leaving};
 
@@ -16,14 +16,21 @@ use words::{ANSWER, BODY, NONE, body_of, read_entry, write_byte, write_departure
 // How many cells a queue holds.
 pub const ROOM: usize = 256;
 
+// For how many cells a queue's row has room: twice as many, so that it seldom has to slide.
+pub const ROW_ROOM: usize = 512;
+
 // Places for each line: as many as its queue holds, and one more.
 const PLACES_A_LINE: u16 = 257;
 
+// How many queues there are.
+const QUEUES: u8 = 32;
+
+#[repr(C)]
 #[derive(Drop)]
 pub struct IdealBox<'a> {
-    memory: Memory<'a, 32, 256>,
-    lines: u8,
+    memory: Memory<'a>,
     now: u64,
+    lines: u8,
 }
 
 impl<'a> IdealBox<'a> {
@@ -34,9 +41,9 @@ impl<'a> IdealBox<'a> {
         rows: &'a mut [u16],
         spare: &'a mut [u16],
     ) -> Option<IdealBox<'a>>
-        ensures { MatchOption result (enough 32 256 heads.old cells.old rows.old spare.old ≡ false) (λ b. (enough 32 256 heads.old cells.old rows.old spare.old ≡ true) × (state b ≡ unset (fresh 32 256 heads.old cells.old rows.old spare.old))) }
+        ensures { MatchOption result (enough 32 512 heads.old cells.old rows.old spare.old ≡ false) (λ b. (enough 32 512 heads.old cells.old rows.old spare.old ≡ true) × (state b ≡ unset (fresh 32 512 heads.old cells.old rows.old spare.old))) }
     {
-        match Memory::new(heads, cells, rows, spare) {
+        match Memory::new(heads, cells, rows, spare, QUEUES, ROW_ROOM) {
             Some(memory) => Some(IdealBox {
                 memory,
                 lines: 0,
@@ -44,6 +51,20 @@ impl<'a> IdealBox<'a> {
             }),
             None => None,
         }
+    }
+
+    // Makes it a box with no lines yet over what is lent to it, whatever it was; false, and nothing is changed, where that is too
+    // little.
+    pub fn renew(&mut self) -> bool
+        ensures after { state self.exit.now ≡ renewed (state self.entry.now) }
+        ensures done { result ≡ lent_enough 32 512 (state self.entry.now).mem }
+    {
+        if !self.memory.renew(QUEUES, ROW_ROOM) {
+            return false;
+        }
+        self.lines = 0;
+        self.now = 0;
+        true
     }
 
     // How many lines there are; 0 before the first settings.

@@ -1,20 +1,20 @@
 -- Who asks next and for which cell, as the table and the sets tell it.
-use Rattle.std.proofs.Common.{◌≡◌, ℕ, zero, suc, ◌+◌, ◌*◌, ◌<◌, ◌≤◌, true, false, cond, get_or, Some, None, Option, sym, refl, ap, ◌∙◌, subst, inl, inr, arith}
+use Rattle.std.proofs.Common.{◌≡◌, ℕ, zero, suc, ◌+◌, ◌*◌, ◌<◌, ◌≤◌, true, false, cond, not, get_or, Some, None, Option, sym, refl, ap, ◌∙◌, subst, inl, inr, arith}
 use Rattle.std.proofs.lemmas.Bool.{cases_Bool, cases_lt, both_ways, eqb-true, eq-eqb, lt-ltb}
 use Rattle.std.proofs.lemmas.Bool.Decides.{nat_tests}
 use Rattle.crossbox.specs.declared.Cell.{Cell}
 use Rattle.crossbox.specs.Cells.{earlier, same, is_in, earliest}
 use Rattle.crossbox.specs.Box.{Box, for_output}
-use Rattle.crossbox.specs.Matching.{Finding, content, unrefused, wanted, or_else, next_ask, Ended}
+use Rattle.crossbox.specs.Matching.{Finding, content, unrefused, wanted, or_else, next_ask, some, Ended}
 use Rattle.crossbox.proofs.Cells.{same_eq, earlier_other}
 use Rattle.crossbox.proofs.Asking.{earliest_in, earliest-none, earliest_least, content-none, is_in-unrefused, next-ended}
-use Rattle.matching.specs.declared.Firsts.{Firsts}
-use Rattle.matching.specs.Bits.{is_set, Lowest}
+use Rattle.firsts.specs.declared.Firsts.{Firsts}
+use Rattle.bits.specs.Bits.{is_set, Lowest}
 use Rattle.matching.specs.Table.{Ties, first_for}
 use Rattle.matching.specs.Asking.{key_of, Earliest}
 use Rattle.matching.specs.Loop.{State, Tied}
 use Rattle.matching.proofs.Heads.{some_first, some_for, first_in, first-ahead}
-use Rattle.matching.proofs.Sets.{none-set}
+use Rattle.bits.proofs.Sets.{none-set}
 
 -- of two first cells the one with the greater number is not earlier
 key_earlier : (c e : Cell) (x y : ℕ) → x ≡ c.slot * 32 + c.input → y ≡ e.slot * 32 + e.input → c.input < 32 → e.input < 32 → x ≤ y → earlier e c ≡ false

@@ -1,7 +1,6 @@
 pub mod Ask
 pub mod Ends
 pub mod Heads
-pub mod Making
+pub mod Ties
 pub mod Least
-pub mod Sets
 pub mod Turn

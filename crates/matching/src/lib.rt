@@ -3,27 +3,13 @@
 
 ghost use Rattle.std.specs.Prelude.{◌≡◌, ℕ, ◌<◌, ◌≤◌, true, not, ◌&&◌, ◌||◌, if◌then◌else◌, ◌==◌, nat_lt, slice_index};
 ghost use Rattle.crossbox.specs.Box.{Box};
-ghost use Rattle.matching.specs.Bits.{is_set};
+ghost use Rattle.bits.specs.Bits.{is_set};
 ghost use Rattle.matching.specs.Table.{Ties, Finds};
 ghost use Rattle.matching.specs.Asking.{names, Small, key_of, Earliest, prefers_in};
 
-mod bits;
-mod table;
-
-use crate::bits::{lowest, with, without, without_lowest};
+use bits::{lowest, with, without, without_lowest};
 use crossbox::Arrival;
-
-// How many inputs and how many outputs the table has.
-const LINES: usize = 32;
-
-// The first waiting cell of each pair of an input i and an output o: `waiting` has bit i of its number o set where there is one,
-// `slots` its slot at o * 32 + i, and `places` how many stand ahead of it in the list of its input at i * 32 + o.
-#[derive(Drop)]
-pub struct Firsts {
-    pub waiting: [u32; 32],
-    pub slots: [u32; 1024],
-    pub places: [u16; 1024],
-}
+use firsts::{Firsts, LINES};
 
 // What is found: for each input the output for which it sends a cell, and how often outputs have asked.
 #[derive(Clone, Copy)]

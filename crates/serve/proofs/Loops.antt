@@ -1,10 +1,10 @@
 -- The loops: how far a stream is served, when it is all served, and where memory gives out.
-use Rattle.std.proofs.Common.{◌≡◌, ℕ, ◌+◌, ◌-◌, ◌*◌, ◌≤◌, cond, eqb, leb, List, [], ◌∷◌, ◌++◌, map, length, take, drop, Some, None, sym, refl, ap, ◌∙◌, subst, inl, inr, append_assoc, append-nil, arith}
+use Rattle.std.proofs.Common.{◌≡◌, ℕ, ◌+◌, ◌-◌, ◌*◌, ◌<◌, ◌≤◌, Bool, true, false, cond, eqb, leb, List, [], ◌∷◌, ◌++◌, map, length, take, drop, Some, None, sym, refl, ap, ◌∙◌, subst, inl, inr, append_assoc, append-nil, arith}
 use Rattle.std.proofs.lemmas.List.{length-append, drop_at, take-append-drop}
 use Rattle.std.proofs.lemmas.Bool.{cases_Bool}
 use Rattle.frames.specs.Streams.{Taken, Split}
 use Rattle.frames.specs.Frames.{byte_values, taken, next_frame, frames}
-use Rattle.frames.specs.Hex.{line_feed, longer, next_line}
+use Rattle.frames.specs.Hex.{line_feed, longer, next_line, lines}
 use Rattle.frames.proofs.Frames.{frames-none, frames-some}
 use Rattle.frames.proofs.Lines.{lines_none, lines-some, line_ends, line_goes_on}
 use Rattle.switch.specs.Respond.{Status}

@@ -1,9 +1,11 @@
 -- A stream that comes by pieces: what was served of it, and what is pending.
 use Rattle.std.proofs.Common.{◌≡◌, ℕ, Bool, true, cond, eqb, List, [], ◌∷◌, ◌++◌, map, length, is_ok, None, Ok, Err, Result, sym, refl, ap, ◌∙◌, subst, append_assoc, append-nil, arith}
 use Rattle.std.proofs.lemmas.Bool.{eqb-true}
+use Rattle.std.specs.List.{flat_map}
 use Rattle.std.proofs.lemmas.List.{map-append}
 use Rattle.frames.specs.Streams.{Split}
 use Rattle.frames.specs.Laws.{then_split}
+use Rattle.frames.specs.Frames.{frames}
 use Rattle.frames.specs.Hex.{lines, next_line}
 use Rattle.frames.proofs.Frames.{frames-split, frames-none}
 use Rattle.frames.proofs.Lines.{lines_split}
@@ -11,7 +13,7 @@ use Rattle.switch.specs.Respond.{Status}
 use Rattle.serve.specs.declared.form.Form.{Form}
 use Rattle.serve.specs.declared.form.Form.TheVariants.{Frames, Lines}
 use Rattle.serve.specs.Form.{spelled, cut, ending, whole_words}
-use Rattle.serve.specs.Served.{Served, word_of}
+use Rattle.serve.specs.Served.{Served, answers_to, word_of, line_words}
 use Rattle.serve.proofs.Turns.{served-none, served-append}
 use Rattle.serve.proofs.Loops.{line_end}
 

@@ -1,12 +1,12 @@
 -- A word served, and words served one after the other.
-use Rattle.std.proofs.Common.{◌≡◌, ℕ, ◌-◌, ◌≤◌, Bool, true, false, cond, eqb, List, [], ◌∷◌, ◌++◌, length, take, drop, is_ok, IfOk, Ok, Err, Result, sym, refl, ap, ◌∙◌, subst, append_assoc, append-nil, arith, MatchResult}
+use Rattle.std.proofs.Common.{◌≡◌, ℕ, ◌+◌, ◌-◌, ◌<◌, ◌≤◌, Bool, true, false, cond, eqb, List, [], ◌∷◌, ◌++◌, length, take, drop, is_ok, IfOk, Ok, Err, Result, sym, refl, ap, ◌∙◌, subst, append_assoc, append-nil, arith, MatchResult}
 use native.Mathlib.Nat.{sub-zero}
 use Rattle.std.specs.List.{flat_map}
 use Rattle.std.proofs.lemmas.List.{length-append, length-take, take-append-le, take_rest}
 use Rattle.std.proofs.lemmas.Bool.{eqb-true}
 use Rattle.switch.specs.Respond.{Status, respond}
 use Rattle.switch.specs.Promise.{Answers}
-use Rattle.serve.specs.Served.{after, given, Served, Stopped, cut_frame, last_line, word_of}
+use Rattle.serve.specs.Served.{after, given, answers_to, Served, Stopped, cut_frame, last_line, word_of}
 use Rattle.serve.proofs.Words.{after-append, after_none, after_one, answers_none, answers_one, written-append}
 
 -- what an answer that is there, or is not, adds

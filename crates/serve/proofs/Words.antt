@@ -1,5 +1,5 @@
 -- The status after words and their answers: laws of one word, and of words behind others.
-use Rattle.std.proofs.Common.{◌≡◌, ℕ, List, [], ◌∷◌, ◌++◌, sym, refl, ap, ◌∙◌, append_assoc, append-nil}
+use Rattle.std.proofs.Common.{◌≡◌, ℕ, List, [], ◌∷◌, ◌++◌, sym, refl, ap, ◌∙◌, subst, append_assoc, append-nil}
 use Rattle.std.specs.List.{flat_map}
 use Rattle.switch.specs.Respond.{Status, respond}
 use Rattle.serve.specs.Served.{after, given, answers_to}

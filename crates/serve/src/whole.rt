@@ -1,7 +1,7 @@
 // A whole stream in one call: its bytes in, the answers' bytes out.
 ghost use Rattle.std.specs.Prelude.{◌≡◌, true, replicate, IfOk, MatchResult};
 ghost use Rattle.std.specs.List.{flat_map};
-ghost use Rattle.buffer.specs.Memory.{enough};
+ghost use Rattle.places.specs.Memory.{enough};
 ghost use Rattle.frames.specs.Frames.{framed};
 ghost use Rattle.switch.specs.Respond.Status.{Unset};
 ghost use Rattle.serve.specs.Served.{answers_to, stream_words, Fails};
@@ -60,7 +60,7 @@ pub fn answers(
     spare: &mut [u16],
     input: &[u8],
 ) -> Result<Vec<u8>, ServeError>
-    ensures { MatchResult result (λ v. (v.items ≡ flat_map framed (answers_to Unset (stream_words input.now))) × (enough 32 256 heads.old cells.old rows.old spare.old ≡ true)) (λ e. Fails e (enough 32 256 heads.old cells.old rows.old spare.old)) }
+    ensures { MatchResult result (λ v. (v.items ≡ flat_map framed (answers_to Unset (stream_words input.now))) × (enough 32 512 heads.old cells.old rows.old spare.old ≡ true)) (λ e. Fails e (enough 32 512 heads.old cells.old rows.old spare.old)) }
 {
     let Some(mut ideal) = IdealBox::new(heads, cells, rows, spare) else {
         return Err(ServeError::TooLittleLent);

@@ -5,6 +5,7 @@ ghost use Rattle.std.specs.Prelude.{◌<◌};
 
 use buffer::{Head, PLACES};
 use fabric::Fabric;
+use firsts::Firsts;
 use ideal::IdealBox;
 use serve::{Form, ServeError, answers, answers_by_pieces};
 use std::alloc::{AllocError, Global};
@@ -67,11 +68,13 @@ fn box_by_pieces(
 ) -> Result<Vec<u8>, ServeError>
     requires { 0 < size }
 {
+    let mut firsts = Firsts::new();
     let Some(mut fabric) = Fabric::new(
         &mut lent.heads,
         &mut lent.cells,
         &mut lent.rows,
         &mut lent.spare,
+        &mut firsts,
     ) else {
         return Err(ServeError::TooLittleLent);
     };

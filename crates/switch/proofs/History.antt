@@ -1,5 +1,5 @@
 -- Cells of the ideal queues come from the slots so far, and keep their bytes as slots are added.
-use Rattle.std.proofs.Common.{◌≡◌, ℕ, zero, suc, ◌<◌, Bool, cond, eqb, ltb, List, [], ◌∷◌, ◌++◌, map, length, Some, None, Option, sym, refl, ap, ◌∙◌, subst, inl, inr, arith}
+use Rattle.std.proofs.Common.{◌≡◌, ℕ, zero, suc, ◌+◌, ◌<◌, ◌≤◌, Bool, true, false, cond, eqb, ltb, List, [], ◌∷◌, ◌++◌, map, length, get_or, Some, None, Option, sym, refl, ap, ◌∙◌, subst, inl, inr, arith}
 use Rattle.std.specs.List.{range_with_len, AllByRecursion}
 use Rattle.std.proofs.lemmas.List.{length-map}
 use Rattle.std.proofs.ByRecursion.{All-append, All-weaker}
@@ -10,7 +10,9 @@ use Rattle.crossbox.specs.declared.Arrival.TheVariants.{Nothing, For}
 use Rattle.crossbox.specs.declared.Cell.{Cell}
 use Rattle.crossbox.specs.Cells.{Arrivals}
 use Rattle.crossbox.specs.Ideal.{cells_for, admit, admitted, rest, queue}
-use Rattle.buffer.proofs.Put.{map_alike}
+use Rattle.places.specs.Memory.{Held}
+use Rattle.places.proofs.Put.{map_alike}
+use Rattle.words.specs.Answer.{Departure}
 use Rattle.ideal.proofs.Spelled.{shown}
 use Rattle.switch.specs.Respond.{SlotIn, arrived, body_in, with_body}
 use Rattle.switch.specs.Best.{dressed}

@@ -1,16 +1,16 @@
 -- One turn of any box that shows a status: a refusal, new settings, a slot.
-use Rattle.std.proofs.Common.{◌≡◌, ℕ, ◌*◌, ◌⊎◌, List, [], ◌∷◌, map, length, get_or, take, drop, sym, ap, ◌∙◌, subst, inl, arith}
+use Rattle.std.proofs.Common.{◌≡◌, ℕ, ◌*◌, Bool, false, ◌⊎◌, List, [], ◌∷◌, map, length, get_or, take, drop, sym, refl, ap, ◌∙◌, subst, inl, inr, arith}
 use Rattle.std.specs.List.{range_with_len}
 use Rattle.crossbox.specs.Ideal.{departure, rejected}
-use Rattle.buffer.specs.Lent.{Lent, beyond}
+use Rattle.places.specs.Lent.{Lent, beyond}
 use Rattle.words.specs.declared.fault.Fault.{Fault}
 use Rattle.words.specs.Lines.{Line}
 use Rattle.words.specs.Writing.{overwrite, refusal_bytes}
-use Rattle.words.specs.Answer.{Written}
+use Rattle.words.specs.Answer.{Written, answer_bytes}
 use Rattle.words.proofs.Overwrites.{overwrite_front, overwrite-behind}
 use Rattle.words.proofs.Answered.{answer_front, answer-behind}
 use Rattle.switch.specs.Respond.{Status, Verdict, SlotIn, arrived, slot_of, with_body, slot_answer, decide, outcome, respond}
-use Rattle.switch.specs.Respond.Status.{Running}
+use Rattle.switch.specs.Respond.Status.{Unset, Running}
 use Rattle.switch.specs.Respond.Verdict.{Refuse, Begin, Take}
 use Rattle.switch.specs.Promise.{Answers, Keeps, PutThere, lines_of}
 

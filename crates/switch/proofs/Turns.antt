@@ -1,5 +1,5 @@
 -- Each turn of the ideal box over lent memory is what `respond` says.
-use Rattle.std.proofs.Common.{◌≡◌, ℕ, ◌+◌, ◌*◌, ◌<◌, ◌≤◌, Bool, true, false, cond, ◌&&◌, eqb, leb, List, [], ◌∷◌, map, length, get_or, take, drop, Some, None, Ok, Err, Option, Result, unwrap_or, sym, refl, ap, ◌∙◌, subst, inl, inr, ⊎_elim, arith}
+use Rattle.std.proofs.Common.{◌≡◌, ℕ, zero, suc, ◌+◌, ◌*◌, ◌<◌, ◌≤◌, Bool, true, false, cond, ◌&&◌, eqb, ltb, leb, ◌⊎◌, List, [], ◌∷◌, ◌++◌, map, length, get_or, take, drop, Some, None, Ok, Err, Option, Result, unwrap_or, sym, refl, ap, ◌∙◌, subst, inl, inr, ⊎_elim, arith}
 use Rattle.std.specs.List.{range_with_len}
 use Rattle.std.proofs.lemmas.List.{length-map}
 use Rattle.std.proofs.lemmas.Bool.{and_parts, leb-true, ne_eqb, cond-false}
@@ -7,17 +7,17 @@ use Rattle.crossbox.specs.declared.Arrival.{Arrival}
 use Rattle.crossbox.specs.declared.Arrival.TheVariants.{Nothing, For}
 use Rattle.crossbox.specs.declared.Cell.{Cell}
 use Rattle.crossbox.specs.Cells.{Arrivals}
-use Rattle.crossbox.specs.Ideal.{admitted, first, queue, departure, full, rejected}
-use Rattle.buffer.specs.declared.Head.{Head}
-use Rattle.buffer.specs.Memory.{Mem, held_at, enough, fresh}
-use Rattle.buffer.specs.Lent.{Lent, lent_to, beyond}
-use Rattle.buffer.proofs.Reset.{reset-row}
+use Rattle.crossbox.specs.Ideal.{admitted, rest, first, queue, departure, full, rejected}
+use Rattle.places.specs.declared.Head.{Head}
+use Rattle.places.specs.Memory.{Mem, Held, held, held_at, enough, fresh}
+use Rattle.places.specs.Lent.{Lent, lent_to, beyond}
+use Rattle.places.proofs.Reset.{reset-row}
 use Rattle.words.specs.declared.fault.Fault.{Fault}
 use Rattle.words.specs.declared.fault.Fault.TheVariants.{Malformed, LineCount, NoSuchOutput, SlotLimit}
 use Rattle.words.specs.declared.read.Kind.{Kind}
 use Rattle.words.specs.declared.read.Kind.TheVariants.{Settings, Slot, Choice, Unknown}
 use Rattle.words.specs.Kind.{kind_of}
-use Rattle.words.specs.Lines.{Line, no_line, all_fit, settings, judge, judged, verdict}
+use Rattle.words.specs.Lines.{Line, no_line, read_lines, all_fit, settings, judge, judged, verdict}
 use Rattle.words.specs.Writing.{overwrite, refusal_bytes}
 use Rattle.words.specs.Answer.{Departure, Written, answer_bytes}
 use Rattle.words.proofs.Scans.{verdict_good}
@@ -26,15 +26,16 @@ use Rattle.words.proofs.Answered.{answer_front, answer-behind}
 use Rattle.ideal.specs.State.{State, Good, begun, unset}
 use Rattle.ideal.specs.Steps.{Reads, admit_all, away, depart_all, departures, served, leavers, rejects}
 use Rattle.ideal.specs.Steps as steps
+use Rattle.ideal.specs.Kept as kept
 use Rattle.ideal.proofs.Good.{with, reads_bring, admit_all_good, depart_all_good, begun_good, unset_good}
-use Rattle.ideal.proofs.Spelled.{Spells, Dresses, full_for, admit_all-spelled, away_all_spelled, departures-spelled, left-spelled}
+use Rattle.ideal.proofs.Spelled.{shown, Spells, Dresses, full_for, admit_all-spelled, away_all_spelled, departures-spelled, left-spelled}
 use Rattle.ideal.proofs.Kept.{slot_stays, settings_stay, places_kept}
-use Rattle.switch.specs.Respond.{Status, Verdict, SlotIn, arrived, slot_of, with_body, slot_answer, settings_verdict, slot_verdict, on_slot, by_kind, decide, outcome, respond}
+use Rattle.switch.specs.Respond.{Status, Verdict, SlotIn, arrived, body_in, slot_of, with_body, slot_answer, settings_verdict, slot_verdict, on_slot, by_kind, decide, outcome, respond}
 use Rattle.switch.specs.Respond.Status.{Unset, Running}
 use Rattle.switch.specs.Respond.Verdict.{Refuse, Begin, Take}
 use Rattle.switch.specs.declared.best.Step.{Step}
 use Rattle.switch.specs.declared.best.Step.TheVariants as step
-use Rattle.switch.specs.Promise.{Answers, Keeps, lines_of}
+use Rattle.switch.specs.Promise.{Answers, Keeps, PutThere, lines_of}
 use Rattle.switch.specs.Best.{dressed, Runs, Shows, Refused, Settled, Slotted, step_of}
 use Rattle.switch.proofs.History.{counting_alike, body_new, dressed_on, queue-none, queue-more, shown_is}
 
@@ -42,7 +43,7 @@ use Rattle.switch.proofs.History.{counting_alike, body_new, dressed_on, queue-no
 pub record Turn (s after : State) (st : Status) (word : List ℕ) (r : ℕ) (out written : List ℕ) : Type 0 where
   pub answers : Answers st word r out written
   pub goes : Shows after (respond st word).0
-  pub keeps : Keeps 256 st word (lent_to s.mem) (lent_to after.mem)
+  pub keeps : Keeps 512 st word (lent_to s.mem) (lent_to after.mem)
 
 pub shows_good : (s : State) (st : Status) → Shows s st → Good s
 shows_good s Unset h = h.0
@@ -70,7 +71,7 @@ module _ (s after : State) (st : Status) (word : List ℕ) (r : ℕ) (out writte
       record {
         answers = record { size = f.size ∙ sym (ap (λ x. length x.1) a); bytes = w.0 ∙ sym (ap (λ x. x.1) a); rest = w.1 };
         goes = subst (λ (z : Status). Shows after z) (sym (ap (λ x. x.0) a)) (subst (λ (z : State). Shows z st) (sym f.same) h);
-        keeps = record { refused = λ _ _. m; unneeded = ap (λ (l : Lent). beyond (257 * lines_of (respond st word).0) (256 * lines_of (respond st word).0) l) m; places = λ p. inl (ap (λ (l : Lent). get_or l.cells p []) m) };
+        keeps = record { refused = λ _ _. m; unneeded = ap (λ (l : Lent). beyond (257 * lines_of (respond st word).0) (512 * lines_of (respond st word).0) l) m; places = λ p. inl (ap (λ (l : Lent). get_or l.cells p []) m) };
       }
 
   pub begun_turn : (n : ℕ) → decide st word ≡ Begin n → 0 < n → n ≤ 32 → after ≡ begun n s → r ≡ 0 → written ≡ out → Turn s after st word r out written
@@ -79,11 +80,11 @@ module _ (s after : State) (st : Status) (word : List ℕ) (r : ℕ) (out writte
       let a : respond st word ≡ (Running n [], []) = ap (λ (v : Verdict). outcome st v) e in
       let stay = settings_stay s n g few in
       let ln : lines_of (respond st word).0 ≡ n = ap (λ x. lines_of x.0) a in
-      let u : beyond (257 * n) (256 * n) (lent_to after.mem) ≡ beyond (257 * n) (256 * n) (lent_to s.mem) = ap (λ (x : State). beyond (257 * n) (256 * n) (lent_to x.mem)) f ∙ stay.0 in
+      let u : beyond (257 * n) (512 * n) (lent_to after.mem) ≡ beyond (257 * n) (512 * n) (lent_to s.mem) = ap (λ (x : State). beyond (257 * n) (512 * n) (lent_to x.mem)) f ∙ stay.0 in
       record {
         answers = record { size = z ∙ sym (ap (λ x. length x.1) a); bytes = ap (λ (k : ℕ). take k written) z ∙ sym (ap (λ x. x.1) a); rest = ap (λ (xs : List ℕ). drop r xs) o };
         goes = subst (λ (x : Status). Shows after x) (sym (ap (λ x. x.0) a)) (subst (λ (x : State). Runs x n []) (sym f) (begun_runs g));
-        keeps = record { refused = λ fault q. absurd (no_refusal' (decide st word) fault n q e); unneeded = subst (λ (k : ℕ). beyond (257 * k) (256 * k) (lent_to after.mem) ≡ beyond (257 * k) (256 * k) (lent_to s.mem)) (sym ln) u; places = λ p. inl (ap (λ (x : State). get_or x.mem.cells p []) f) };
+        keeps = record { refused = λ fault q. absurd (no_refusal' (decide st word) fault n q e); unneeded = subst (λ (k : ℕ). beyond (257 * k) (512 * k) (lent_to after.mem) ≡ beyond (257 * k) (512 * k) (lent_to s.mem)) (sym ln) u; places = λ p. inl (ap (λ (x : State). get_or x.mem.cells p []) f) };
       }
     where
       begun_runs : Good s → Runs (begun n s) n []
@@ -106,6 +107,7 @@ any_slots s m k g =
       places = g.places;
       few = g.few;
       idle = g.idle;
+      full = g.full;
       heads_lent = g.heads_lent;
       cells_lent = g.cells_lent;
       spare_lent = g.spare_lent;
@@ -185,13 +187,13 @@ slot_turn_lem s after past word bytes r out written h read e f w =
     let m = ap (λ (z : State). lent_to z.mem) f in
     let ln : lines_of (respond st word).0 ≡ s.lines = ap (λ x. lines_of x.0) a in
     let stay = slot_stays s bytes h.good read in
-    let u : beyond (257 * s.lines) (256 * s.lines) (lent_to after.mem) ≡ beyond (257 * s.lines) (256 * s.lines) (lent_to s.mem) = ap (λ (l : Lent). beyond (257 * s.lines) (256 * s.lines) l) m ∙ stay.0 in
+    let u : beyond (257 * s.lines) (512 * s.lines) (lent_to after.mem) ≡ beyond (257 * s.lines) (512 * s.lines) (lent_to s.mem) = ap (λ (l : Lent). beyond (257 * s.lines) (512 * s.lines) l) m ∙ stay.0 in
     record {
       answers = record { size = w.next ∙ (ap (λ (xs : List ℕ). length xs) b ∙ sym (ap (λ x. length x.1) a)); bytes = answer_front out written r (leavers ls s) (rejects ls s) w ∙ (b ∙ sym (ap (λ x. x.1) a)); rest = answer-behind out written r (leavers ls s) (rejects ls s) w };
       goes = subst (λ (z : Status). Shows after z) (sym (ap (λ x. x.0) a)) (subst (λ (z : State). Runs z s.lines (slot_of ls ∷ past)) (sym f) (served_runs s past bytes h read));
       keeps = record {
         refused = λ fault q. absurd (no_refusal (decide st word) fault ls q e);
-        unneeded = subst (λ (k : ℕ). beyond (257 * k) (256 * k) (lent_to after.mem) ≡ beyond (257 * k) (256 * k) (lent_to s.mem)) (sym ln) u;
+        unneeded = subst (λ (k : ℕ). beyond (257 * k) (512 * k) (lent_to after.mem) ≡ beyond (257 * k) (512 * k) (lent_to s.mem)) (sym ln) u;
         places = λ p. ⊎_elim
             (λ q. inl (ap (λ (l : Lent). get_or l.cells p []) m ∙ q))
             (λ q. inr (record { n = s.lines; past = past; lines = ls; input = q.input; output = q.output; running = refl; slot = e; there = q.there; arrives = q.arrives; taken = sym (away_is s past bytes h read q.input q.there) ∙ q.taken; free = q.free; bytes = ap (λ (l : Lent). get_or l.cells p []) m ∙ q.bytes }))
@@ -271,6 +273,6 @@ decides_malformed s st word h a b = go (kind_of word) refl
     go Unknown e = ap (λ (x : Kind). by_kind st x word) e
 
 -- a box that was made is not set
-pub made_unset : (heads : List Head) (cells : List (List ℕ)) (rows spare : List ℕ) (s : State) → enough 32 256 heads cells rows spare ≡ true → s ≡ unset (fresh 32 256 heads cells rows spare) → Shows s Unset
+pub made_unset : (heads : List Head) (cells : List (List ℕ)) (rows spare : List ℕ) (s : State) → enough 32 512 heads cells rows spare ≡ true → s ≡ unset (fresh 32 512 heads cells rows spare) → Shows s Unset
 made_unset heads cells rows spare s e q =
     subst (λ (z : State). Shows z Unset) (sym q) (unset_good heads cells rows spare e, refl)

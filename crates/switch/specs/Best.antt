@@ -2,7 +2,7 @@
 use Rattle.std.specs.Prelude.{◌≡◌, ℕ, ◌<◌, cond, List, map, length, Ok, Err, Result, ◌==◌}
 use Rattle.crossbox.specs.declared.Cell.{Cell}
 use Rattle.crossbox.specs.Ideal.{queue}
-use Rattle.buffer.specs.Memory.{Held, held}
+use Rattle.places.specs.Memory.{Held, held}
 use Rattle.words.specs.declared.fault.Fault.{Fault}
 use Rattle.words.specs.Lines.{Line}
 use Rattle.words.specs.Writing.{overwrite, refusal_bytes}

@@ -1,14 +1,14 @@
 -- The promise of a box, on the call that takes a word and gives the answer. Assumes nothing.
-use Rattle.std.specs.Prelude.{◌≡◌, ℕ, ◌*◌, ◌<◌, false, ◌⊎◌, List, [], length, get_or, take, drop, slice_index_or}
+use Rattle.std.specs.Prelude.{◌≡◌, ℕ, ◌*◌, ◌<◌, Bool, true, false, ◌⊎◌, List, [], ◌∷◌, length, get_or, take, drop, slice_index_or}
 use Rattle.crossbox.specs.declared.Arrival.TheVariants.{For}
 use Rattle.crossbox.specs.Ideal.{rejected}
-use Rattle.buffer.specs.Head.{vacant}
-use Rattle.buffer.specs.Lent.{Lent, beyond}
+use Rattle.places.specs.Head.{vacant}
+use Rattle.places.specs.Lent.{Lent, beyond}
 use Rattle.words.specs.Lines.{Line}
 use Rattle.words.specs.declared.fault.Fault.{Fault}
 use Rattle.switch.specs.Respond.Status.{Unset, Running}
 use Rattle.switch.specs.Respond.Verdict.{Refuse, Take}
-use Rattle.switch.specs.Respond.{Status, SlotIn, arrived, slot_of, decide, respond}
+use Rattle.switch.specs.Respond.{Status, Verdict, SlotIn, arrived, slot_of, decide, respond}
 
 -- the first r bytes of a buffer are the answer, and the rest of the buffer is as it was
 pub record Answers (st : Status) (word : List ℕ) (r : ℕ) (before after : List ℕ) : Type 0 where
@@ -42,3 +42,10 @@ pub record Keeps (width : ℕ) (st : Status) (word : List ℕ) (before after : L
   pub refused : (fault : Fault) → decide st word ≡ Refuse fault → after ≡ before
   pub unneeded : beyond (257 * lines_of (respond st word).0) (width * lines_of (respond st word).0) after ≡ beyond (257 * lines_of (respond st word).0) (width * lines_of (respond st word).0) before
   pub places : (p : ℕ) → (slice_index_or after.cells p [] ≡ slice_index_or before.cells p []) ⊎ PutThere st word before after p
+
+-- A box was made anew where enough is lent: it shows then that it is not set, and otherwise still what it showed; what is lent is as it was.
+pub record Restarted (enough r : Bool) (before after : Status → Type 0) (lent left : Lent) : Type 0 where
+  pub done : r ≡ enough
+  pub unset : enough ≡ true → after Unset
+  pub same : enough ≡ false → (st : Status) → before st → after st
+  pub kept : left ≡ lent

@@ -1,7 +1,7 @@
 // The ideal box as a switch.
 ghost use Rattle.std.specs.Prelude.{◌≡◌, ℕ, ◌<◌, true, false, List, MatchOption, nat_le};
-ghost use Rattle.buffer.specs.Memory.{enough, fresh};
-ghost use Rattle.buffer.specs.Lent.{lent_to};
+ghost use Rattle.places.specs.Memory.{enough, fresh, lent_enough};
+ghost use Rattle.places.specs.Lent.{lent_to};
 ghost use Rattle.switch.specs.Respond.Status.{Unset};
 ghost use Rattle.words.specs.Lines.{settings, judge};
 ghost use Rattle.ideal.specs.State.{state, Good};
@@ -29,7 +29,7 @@ pub fn best_box<'a>(
     rows: &'a mut [u16],
     spare: &'a mut [u16],
 ) -> Option<IdealBox<'a>>
-    ensures { MatchOption result (enough 32 256 heads.old cells.old rows.old spare.old ≡ false) (λ b. (enough 32 256 heads.old cells.old rows.old spare.old ≡ true) × Shows (state b) Unset × ((state b).mem ≡ fresh 32 256 heads.old cells.old rows.old spare.old)) }
+    ensures { MatchOption result (enough 32 512 heads.old cells.old rows.old spare.old ≡ false) (λ b. (enough 32 512 heads.old cells.old rows.old spare.old ≡ true) × Shows (state b) Unset × ((state b).mem ≡ fresh 32 512 heads.old cells.old rows.old spare.old)) }
 {
     match IdealBox::new(heads, cells, rows, spare) {
         Some(ideal) => Some(ideal),
@@ -79,7 +79,13 @@ impl Switch for IdealBox<'_> {
 
     ghost lent = { λ b. lent_to (state b).mem };
 
-    ghost width = { λ b. 256 };
+    ghost width = { λ b. 512 };
+
+    ghost suffices = { λ b. lent_enough 32 512 (state b).mem };
+
+    fn restart(&mut self) -> bool {
+        self.renew()
+    }
 
     fn answer(&mut self, word: &[u8], out: &mut [u8; 2241]) -> usize {
         match (ready_for(self), Kind::of(word)) {

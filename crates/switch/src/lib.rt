@@ -1,10 +1,10 @@
 // What a box is to the outside: a word in, an answer out.
 #![tactic(auto)]
 
-ghost use Rattle.std.specs.Prelude.{◌≡◌, ℕ, List};
-ghost use Rattle.buffer.specs.Lent.{Lent};
+ghost use Rattle.std.specs.Prelude.{◌≡◌, ℕ, Bool, List};
+ghost use Rattle.places.specs.Lent.{Lent};
 ghost use Rattle.switch.specs.Respond.{Status, respond};
-ghost use Rattle.switch.specs.Promise.{Answers, Keeps};
+ghost use Rattle.switch.specs.Promise.{Answers, Keeps, Restarted};
 
 mod best;
 
@@ -20,6 +20,13 @@ pub trait Switch {
 
     // how many entries of rows a line takes
     ghost width: { Self → ℕ };
+
+    // whether what is lent is enough for a box
+    ghost suffices: { Self → Bool };
+
+    // Makes it a box that is not set over what is lent to it, whatever it was; false where that is too little.
+    fn restart(&mut self) -> bool
+        ensures { Restarted (suffices self.old) result (shows self.old) (shows self.new) (lent self.old) (lent self.new) };
 
     // Takes a word; writes the answer to the front of the buffer, and gives its length.
     fn answer(&mut self, word: &[u8], out: &mut [u8; 2241]) -> usize

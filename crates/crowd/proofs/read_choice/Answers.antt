@@ -1,6 +1,7 @@
-use Rattle.std.proofs.Common.{◌≡◌, ℕ, ◌-◌, ◌<◌, ap, ◌∙◌, subst, arith}
+use Rattle.std.proofs.Common.{◌≡◌, ℕ, ◌-◌, ◌<◌, ◌≤◌, List, length, drop, Some, sym, ap, ◌∙◌, subst, arith}
 use Rattle.words.specs.Lines.{Line, no_line, read_lines}
-use Rattle.words.proofs.Lines.{line_there, line_at}
+use Rattle.words.proofs.Lines.{line_there, line_at, lines-length}
+use Rattle.crossbox.specs.declared.Arrival.{Arrival}
 use Rattle.crowd.specs.State.{choice_lines}
 use Rattle.crowd.proofs.Reading.{Read, read_none, read_more, read_all, choice_read, choice_length}
 use Rattle.crowd.proofs.read_choice.Goals as goal

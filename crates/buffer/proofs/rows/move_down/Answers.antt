@@ -1,4 +1,4 @@
-use Rattle.buffer.proofs.Lists.{down_all}
+use Rattle.places.proofs.Lists.{down_all}
 use Rattle.buffer.proofs.rows.move_down.Goals as goal
 
 pub returns : goal.returns

@@ -1,5 +1,5 @@
 use Rattle.std.proofs.Common.{arith}
-use Rattle.buffer.proofs.Lists.{up_again, up_all}
+use Rattle.places.proofs.Lists.{up_again, up_all}
 use Rattle.buffer.proofs.rows.move_up.Goals as goal
 
 pub loop-x-preserved : goal.loop-x-preserved

@@ -1,6 +1,6 @@
-use Rattle.std.proofs.Common.{◌≡◌, arith}
+use Rattle.std.proofs.Common.{◌≡◌, ◌+◌, length, set, arith}
 use Rattle.std.proofs.lemmas.List.Edits.{fill_by_more}
-use Rattle.buffer.proofs.Lists.{number_all}
+use Rattle.places.proofs.Lists.{number_all}
 use Rattle.buffer.proofs.rows.number.Goals as goal
 
 pub loop-x-preserved : goal.loop-x-preserved

@@ -1,6 +1,6 @@
 use Rattle.std.proofs.Common.{arith}
-use Rattle.buffer.specs.Head.{vacant}
-use Rattle.buffer.proofs.Lists.{fill_again, fill_all}
+use Rattle.places.specs.Head.{vacant}
+use Rattle.places.proofs.Lists.{fill_again, fill_all}
 use Rattle.buffer.proofs.rows.vacate.Goals as goal
 
 pub loop-head-preserved : goal.loop-head-preserved

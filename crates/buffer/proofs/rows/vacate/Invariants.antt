@@ -1,5 +1,5 @@
 use Rattle.std.proofs.Common.{◌≡◌, take, replicate}
-use Rattle.buffer.specs.Head.{vacant}
+use Rattle.places.specs.Head.{vacant}
 use Rattle.buffer.proofs.rows.vacate.Given as goal
 
 abbrev pub invariant-loop-head : goal.invariant-loop-head

@@ -1,8 +1,9 @@
-use Rattle.std.proofs.Common.{◌≡◌, ◌-◌, ◌<◌, sym, ap, ◌∙◌, arith}
+use Rattle.std.proofs.Common.{◌≡◌, ◌-◌, ◌<◌, ◌≤◌, length, sym, ap, ◌∙◌, arith}
 use Rattle.words.specs.Lines.{read_lines}
-use Rattle.cioq.specs.State.{state}
-use Rattle.cioq.specs.Arrivals.{slot_lines, away}
-use Rattle.cioq.proofs.Arrivals.{flags_none, flags_more, slot_read, slot_bring, admit-none, step_good, step_lines, step-slots, step_cut, step_brings, step_after, step-rest, step-away}
+use Rattle.steps.specs.State.{State}
+use Rattle.cioq.specs.View.{state}
+use Rattle.steps.specs.Arrivals.{slot_lines, admit_all, away}
+use Rattle.steps.proofs.Arrivals.{Flags, flags_none, flags_more, slot_read, slot_bring, admit-none, step_good, step_lines, step-slots, step_cut, step_brings, step_after, step-rest, step-away}
 use Rattle.cioq.proofs.RealBox.arrive.Goals as goal
 
 pub loop-input-init : goal.loop-input-init

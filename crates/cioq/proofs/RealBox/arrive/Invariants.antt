@@ -1,8 +1,8 @@
-use Rattle.std.proofs.Common.{◌≡◌, ◌-◌, drop, Some}
+use Rattle.std.proofs.Common.{◌≡◌, ◌-◌, ◌≤◌, drop, Some}
 use Rattle.words.specs.Lines.{read_lines}
-use Rattle.cioq.specs.State.{state}
-use Rattle.cioq.specs.Arrivals.{slot_lines, admit_all, away}
-use Rattle.cioq.proofs.Arrivals.{Flags}
+use Rattle.cioq.specs.View.{state}
+use Rattle.steps.specs.Arrivals.{slot_lines, admit_all, away}
+use Rattle.steps.proofs.Arrivals.{Flags}
 use Rattle.cioq.proofs.RealBox.arrive.Given as goal
 
 -- the lines of the inputs before have been admitted, and the others are still to be read

@@ -1,6 +1,7 @@
-use Rattle.std.proofs.Common.{◌≡◌, ◌≤◌, length, sym, ap, ◌∙◌, subst, arith, rules}
-use Rattle.cioq.specs.State.{State, state, Good, Counted}
-use Rattle.cioq.proofs.Departures.{depart-none, start_written, departed-lines, departed_good, departed_counted, step-departed, step_written, step-next}
+use Rattle.std.proofs.Common.{◌≡◌, ◌<◌, ◌≤◌, length, sym, ap, ◌∙◌, subst, arith, rules}
+use Rattle.steps.specs.State.{State, Good, Counted}
+use Rattle.cioq.specs.View.{state}
+use Rattle.steps.proofs.Departures.{depart-none, start_written, departed-lines, departed_good, departed_counted, step-departed, step_written, step-next}
 use Rattle.cioq.proofs.RealBox.depart.Goals as goal
 
 pub loop-output-init : goal.loop-output-init

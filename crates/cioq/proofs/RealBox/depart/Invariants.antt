@@ -1,7 +1,7 @@
 use Rattle.std.proofs.Common.{◌≡◌, ◌+◌, ◌*◌, ◌≤◌, length}
 use Rattle.words.specs.Writing.{overwrite}
-use Rattle.cioq.specs.State.{state}
-use Rattle.cioq.specs.Departures.{depart_all, departing_bytes}
+use Rattle.cioq.specs.View.{state}
+use Rattle.steps.specs.Departures.{depart_all, departing_bytes}
 use Rattle.cioq.proofs.RealBox.depart.Given as goal
 
 -- what leaves by the outputs before has been written and let go

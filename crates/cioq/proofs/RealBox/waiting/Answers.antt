@@ -1,6 +1,6 @@
 use Rattle.std.proofs.Common.{sym, ◌∙◌, arith}
-use Rattle.buffer.specs.Memory.{view}
-use Rattle.cioq.proofs.Lists.{cells-length}
+use Rattle.buffer.specs.View.{view}
+use Rattle.steps.proofs.Lists.{cells-length}
 use Rattle.cioq.proofs.RealBox.waiting.Goals as goal
 
 pub returns : goal.returns

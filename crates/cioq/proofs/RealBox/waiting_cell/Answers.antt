@@ -1,6 +1,6 @@
-use Rattle.std.proofs.Common.{sym, ◌∙◌, arith}
-use Rattle.buffer.specs.Memory.{view}
-use Rattle.cioq.proofs.Lists.{cells-length, cells_at}
+use Rattle.std.proofs.Common.{◌<◌, sym, ◌∙◌, arith}
+use Rattle.buffer.specs.View.{view}
+use Rattle.steps.proofs.Lists.{cells-length, cells_at}
 use Rattle.cioq.proofs.RealBox.waiting_cell.Goals as goal
 
 pub cell-requires : goal.cell-requires
@@ -8,7 +8,7 @@ cell-requires c =
     let few = c.requires.good.few in
     let there = c.requires.there in
     let n = cells-length (view c.args.self.now.memory) c.args.input c.requires.good.sound (omega (arith, c.requires.good.rows)) in
-    (omega arith, (c.requires.good.sound, (omega arith, omega (arith, c.requires.within))))
+    record { sound = c.requires.good.sound; within = (omega (arith, c.requires.good.rows), omega (arith, c.requires.within)) }
 
 pub returns : goal.returns
 returns c =

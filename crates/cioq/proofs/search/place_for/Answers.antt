@@ -1,13 +1,13 @@
-use Rattle.std.proofs.Common.{◌≡◌, ◌-◌, get_or, sym, ap, ◌∙◌, arith}
+use Rattle.std.proofs.Common.{◌≡◌, ◌-◌, ◌<◌, ◌≤◌, length, get_or, take, sym, ap, ◌∙◌, arith}
 use Rattle.std.specs.List.{suffix_len}
 use Rattle.std.proofs.lemmas.List.Sums.{suffix_len-take_yes, suffix_len-take_no}
 use Rattle.std.proofs.lemmas.List.{take_all}
 use Rattle.crossbox.specs.declared.Cell.{Cell}
 use Rattle.crossbox.specs.Cells.{earlier}
-use Rattle.buffer.specs.Memory.{view}
-use Rattle.cioq.specs.Spells.{cells}
-use Rattle.cioq.proofs.Lists.{cells-length, cells_at}
-use Rattle.cioq.proofs.Seeking.{place_stop, ending-none}
+use Rattle.buffer.specs.View.{view}
+use Rattle.steps.specs.Spells.{cells}
+use Rattle.steps.proofs.Lists.{cells-length, cells_at}
+use Rattle.steps.proofs.Seeking.{place_stop, ending-none}
 use Rattle.cioq.proofs.search.place_for.Goals as goal
 
 pub loop-k-init : goal.loop-k-init
@@ -21,7 +21,7 @@ loop-k-init c =
 pub cell-last-requires : goal.cell-last-requires
 cell-last-requires c =
     let n = cells-length (view c.args.memory.now) c.args.row c.requires.sound c.requires.within in
-    (omega arith, (c.requires.sound, (c.requires.within, omega (arith, c.loop-k.invariant.0, c.loop-k-test.true))))
+    record { sound = c.requires.sound; within = (c.requires.within, omega (arith, c.loop-k.invariant.0, c.loop-k-test.true)) }
 
 pub returns-then-not-is_earlier : goal.returns-then-not-is_earlier
 returns-then-not-is_earlier c =

@@ -1,8 +1,8 @@
 use Rattle.std.proofs.Common.{◌≡◌, ◌+◌, ◌≤◌, length, take}
 use Rattle.std.specs.List.{suffix_len}
 use Rattle.crossbox.specs.Cells.{earlier}
-use Rattle.buffer.specs.Memory.{view}
-use Rattle.cioq.specs.Spells.{cells}
+use Rattle.buffer.specs.View.{view}
+use Rattle.steps.specs.Spells.{cells}
 use Rattle.cioq.proofs.search.place_for.Given as goal
 
 -- the cells behind are all later

@@ -1,9 +1,9 @@
-use Rattle.std.proofs.Common.{ℕ, false, leb, List, refl, subst}
+use Rattle.std.proofs.Common.{◌≡◌, ℕ, false, leb, List, sym, refl, subst}
 use Rattle.std.proofs.lemmas.List.{take_rest}
 use Rattle.words.specs.Lines.{judge}
 use Rattle.crowd.specs.declared.Turn.TheVariants as turn
 use Rattle.crowd.specs.Crowd.{Status}
-use Rattle.crowd.specs.State.{state, Shows, Slotted, Chosen, First, Second, Refused}
+use Rattle.crowd.specs.State.{State, state, Shows, Slotted, Chosen, First, Second, Refused}
 use Rattle.crowd.proofs.Turns.{TurnDone, turn_of_lem, settled_turn, slotted_turn, chosen-first_turn, chosen_second_turn, malformed_turn, same_turn}
 use Rattle.crowd.proofs.Crowd.answer.Goals as goal
 

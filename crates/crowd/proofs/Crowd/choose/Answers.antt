@@ -2,8 +2,8 @@ use Rattle.std.proofs.Common.{◌≡◌, ℕ, false, Ok, sym, subst}
 use Rattle.crossbox.specs.Cells.{Arrivals}
 use Rattle.crossbox.specs.Promise.{Fits}
 use Rattle.words.specs.Lines.{judge, verdict}
-use Rattle.cioq.specs.Arrivals.{arrivals_of}
-use Rattle.cioq.specs.Choice.{choice_of}
+use Rattle.steps.specs.Arrivals.{arrivals_of}
+use Rattle.steps.specs.Choice.{choice_of}
 use Rattle.crowd.specs.State.{state, choice_lines}
 use Rattle.crowd.proofs.Reading.{one_good, choice_fits}
 use Rattle.crowd.proofs.Within.{shows_good, shows_aimed}

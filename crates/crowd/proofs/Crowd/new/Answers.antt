@@ -1,7 +1,7 @@
-use Rattle.std.proofs.Common.{sym, refl, ap, subst}
-use Rattle.cioq.specs.State.{Good}
-use Rattle.cioq.specs.State as real
-use Rattle.cioq.proofs.Begun.{made_good}
+use Rattle.std.proofs.Common.{◌≡◌, sym, refl, ap, subst}
+use Rattle.steps.specs.State.{Good}
+use Rattle.steps.specs.State as real
+use Rattle.steps.proofs.Begun.{made_good}
 use Rattle.crowd.proofs.Crowd.new.Goals as goal
 
 pub returns-in-Some : goal.returns-in-Some

@@ -1,6 +1,6 @@
 use Rattle.std.proofs.Common.{List, ap, ◌∙◌}
 use Rattle.crossbox.specs.declared.Cell.{Cell}
-use Rattle.cioq.specs.Choice.{named}
+use Rattle.steps.specs.Choice.{named}
 use Rattle.crowd.specs.State.{state}
 use Rattle.crowd.proofs.Shown.{shown_list}
 use Rattle.crowd.proofs.Crowd.picked.Goals as goal

@@ -1,5 +1,6 @@
-use Rattle.std.proofs.Common.{◌<◌, List, length, get_or, sym, ap, ◌∙◌, subst}
+use Rattle.std.proofs.Common.{◌≡◌, ℕ, ◌<◌, List, length, get_or, sym, ap, ◌∙◌, subst}
 use Rattle.crossbox.specs.declared.Cell.{Cell}
+use Rattle.steps.specs.Spells.{box_of}
 use Rattle.crowd.specs.State.{state}
 use Rattle.crowd.proofs.Shown.{shown_list, shown_aimed}
 use Rattle.crowd.proofs.Within.{shows_good}

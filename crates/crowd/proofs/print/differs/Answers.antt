@@ -1,4 +1,4 @@
-use Rattle.std.proofs.Common.{◌≡◌, ℕ, ◌<◌, List, sym, refl, ap, ◌∙◌, arith}
+use Rattle.std.proofs.Common.{◌≡◌, ℕ, ◌<◌, List, sym, refl, ap, ◌∙◌, subst, arith}
 use Rattle.crowd.specs.Parts.{part, part_of, behind_all}
 use Rattle.crowd.proofs.Parts.{behind_more, told_more}
 use Rattle.crowd.proofs.print.differs.Goals as goal

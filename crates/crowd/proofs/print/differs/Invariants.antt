@@ -1,5 +1,5 @@
-use Rattle.std.proofs.Common.{◌≡◌}
-use Rattle.crowd.specs.Parts.{behind_all}
+use Rattle.std.proofs.Common.{◌≡◌, ℕ, ◌<◌, false, length, get_or}
+use Rattle.crowd.specs.Parts.{behind_all, part_of}
 use Rattle.crowd.proofs.Parts.{Told}
 use Rattle.crowd.proofs.print.differs.Given as goal
 

@@ -1,5 +1,6 @@
 use Rattle.std.proofs.Common.{ap}
-use Rattle.cioq.specs.State.{State, state}
+use Rattle.steps.specs.State.{State}
+use Rattle.cioq.specs.View.{state}
 use Rattle.fabric.proofs.Laws.{made_unset}
 use Rattle.fabric.proofs.Fabric.new.Goals as goal
 

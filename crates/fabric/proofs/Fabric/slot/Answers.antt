@@ -1,20 +1,21 @@
-use Rattle.std.proofs.Common.{◌≡◌, ℕ, take, sym, refl, ap, ◌∙◌, subst, arith, rules}
-use Rattle.words.specs.Answer.{Written}
+use Rattle.std.proofs.Common.{◌≡◌, ℕ, ◌+◌, ◌*◌, ◌≤◌, List, [], take, sym, refl, ap, ◌∙◌, subst, arith, rules}
+use Rattle.words.specs.Answer.{Departure, Written}
 use Rattle.words.proofs.Answered.{answer_begins}
-use Rattle.cioq.specs.State.{State, state}
-use Rattle.cioq.specs.Departures.{depart_all}
-use Rattle.cioq.specs.Arrivals.{slot_lines}
-use Rattle.cioq.proofs.Arrivals.{all_lines}
-use Rattle.cioq.proofs.Transfers.{transferred_lines}
+use Rattle.steps.specs.State.{State, passed}
+use Rattle.cioq.specs.View.{state}
+use Rattle.steps.specs.Departures.{depart_all}
+use Rattle.steps.specs.Arrivals.{slot_lines}
+use Rattle.steps.proofs.Arrivals.{all_lines}
+use Rattle.steps.proofs.Transfers.{transferred_lines}
 use Rattle.fabric.specs.Served.{Served}
-use Rattle.fabric.proofs.Stages.{stage_tied, stage_aimed, stage_counted, stage_fits, stage_waits}
+use Rattle.fabric.proofs.Stages.{stage_tied, stage_counted, stage_fits, stage_waits}
 use Rattle.fabric.proofs.Slot.{one, three, first_stage, second_stage, third_stage, fourth_stage, slot_served}
 use Rattle.fabric.proofs.Fabric.slot.Goals as goal
 
 pub choose-first-requires : goal.choose-first-requires
 choose-first-requires c =
     let g = (first_stage (state c.args.self.now.real) c.requires.runs.0 c.args.lines.now c.requires.runs.1 c.requires.read (state c.arrive-turned_away.new.self) c.arrive-turned_away.ensures.after) in
-    record { good = (g.good, stage_aimed _ _ _ _ (state c.arrive-turned_away.new.self) (one (state c.args.self.now.real) c.requires.runs.0 c.args.lines.now c.requires.runs.1 c.requires.read) g); tied = (one (state c.args.self.now.real) c.requires.runs.0 c.args.lines.now c.requires.runs.1 c.requires.read, stage_tied _ _ _ _ (state c.arrive-turned_away.new.self) (one (state c.args.self.now.real) c.requires.runs.0 c.args.lines.now c.requires.runs.1 c.requires.read) g) }
+    record { good = g.good; tied = (one (state c.args.self.now.real) c.requires.runs.0 c.args.lines.now c.requires.runs.1 c.requires.read, stage_tied _ _ _ _ (state c.arrive-turned_away.new.self) (one (state c.args.self.now.real) c.requires.runs.0 c.args.lines.now c.requires.runs.1 c.requires.read) g) }
 
 pub transfer-requires : goal.transfer-requires
 transfer-requires c =
@@ -31,7 +32,7 @@ depart-left-requires c =
 pub choose-second-requires : goal.choose-second-requires
 choose-second-requires c =
     let g = (third_stage (state c.args.self.now.real) c.requires.runs.0 c.args.lines.now c.requires.runs.1 c.requires.read (state c.arrive-turned_away.new.self) (state c.transfer.new.self) (state c.depart-left.new.self) (state c.depart-left.new.self) c.choose-first.result c.choose-first.result c.arrive-turned_away.ensures.after c.transfer.ensures (c.choose-first.ensures (one (state c.args.self.now.real) c.requires.runs.0 c.args.lines.now c.requires.runs.1 c.requires.read) (stage_tied _ _ _ _ (state c.arrive-turned_away.new.self) (one (state c.args.self.now.real) c.requires.runs.0 c.args.lines.now c.requires.runs.1 c.requires.read) (first_stage (state c.args.self.now.real) c.requires.runs.0 c.args.lines.now c.requires.runs.1 c.requires.read (state c.arrive-turned_away.new.self) c.arrive-turned_away.ensures.after))) c.depart-left.ensures.after) in
-    record { good = (g.good, stage_aimed _ _ _ _ (state c.depart-left.new.self) (three (state c.args.self.now.real) c.requires.runs.0 c.args.lines.now c.requires.runs.1 c.requires.read) g); tied = (three (state c.args.self.now.real) c.requires.runs.0 c.args.lines.now c.requires.runs.1 c.requires.read, stage_tied _ _ _ _ (state c.depart-left.new.self) (three (state c.args.self.now.real) c.requires.runs.0 c.args.lines.now c.requires.runs.1 c.requires.read) g) }
+    record { good = g.good; tied = (three (state c.args.self.now.real) c.requires.runs.0 c.args.lines.now c.requires.runs.1 c.requires.read, stage_tied _ _ _ _ (state c.depart-left.new.self) (three (state c.args.self.now.real) c.requires.runs.0 c.args.lines.now c.requires.runs.1 c.requires.read) g) }
 
 pub transfer-requires-2 : goal.transfer-requires-2
 transfer-requires-2 c =

@@ -6,7 +6,7 @@ use Rattle.words.specs.Kind.{kind_of}
 use Rattle.words.specs.Lines.{judge}
 use Rattle.fabric.specs.declared.Step.{Step}
 use Rattle.fabric.specs.declared.Step.TheVariants as step
-use Rattle.cioq.specs.State.{state}
+use Rattle.cioq.specs.View.{state}
 use Rattle.switch.specs.Respond.{Status}
 use Rattle.fabric.specs.Real.{Shows}
 use Rattle.fabric.specs.Turns.{Slotted}

@@ -1,5 +1,5 @@
-use Rattle.std.proofs.Common.{◌≡◌, ℕ, ◌-◌, refl, ap, ◌∙◌, arith}
-use Rattle.words.specs.Lines.{no_line, read_lines}
+use Rattle.std.proofs.Common.{◌≡◌, ℕ, ◌+◌, ◌-◌, Bool, Some, sym, refl, ap, ◌∙◌, arith}
+use Rattle.words.specs.Lines.{Line, no_line, read_lines}
 use Rattle.words.proofs.Lines.{line_there, line_at}
 use Rattle.ideal.specs.State.{State, state}
 use Rattle.ideal.specs.Steps.{lines_of, away, admitted}

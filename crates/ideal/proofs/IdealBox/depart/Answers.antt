@@ -1,5 +1,6 @@
-use Rattle.std.proofs.Common.{◌<◌, length, sym, ap, ◌∙◌, arith}
-use Rattle.buffer.specs.Memory.{view, row_length}
+use Rattle.std.proofs.Common.{◌≡◌, ℕ, ◌+◌, ◌<◌, List, length, sym, refl, ap, ◌∙◌, arith}
+use Rattle.places.specs.Memory.{row_length}
+use Rattle.buffer.specs.View.{view}
 use Rattle.words.specs.Answer.{Departure, leaving}
 use Rattle.words.specs.Writing.{overwrite}
 use Rattle.words.proofs.Overwrites.{departure-length}

@@ -1,4 +1,4 @@
-use Rattle.std.proofs.Common.{◌≡◌, ℕ, Bool, List, take, ap, ◌∙◌, subst, arith}
+use Rattle.std.proofs.Common.{◌≡◌, ℕ, ◌≤◌, Bool, List, [], take, sym, ap, ◌∙◌, subst, arith}
 use Rattle.words.specs.Answer.{Departure, Written}
 use Rattle.words.proofs.Answered.{answer_begins}
 use Rattle.ideal.specs.State.{State, state}

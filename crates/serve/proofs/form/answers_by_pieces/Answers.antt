@@ -1,7 +1,7 @@
-use Rattle.std.proofs.Common.{◌++◌, vec_items, sym, ap, ◌∙◌, subst, arith}
+use Rattle.std.proofs.Common.{[], ◌++◌, vec_items, sym, ap, ◌∙◌, subst, arith}
 use Rattle.std.specs.List.{flat_map}
 use Rattle.switch.specs.Respond.Status.{Unset}
-use Rattle.serve.specs.Form.{spelled, ending, whole_words}
+use Rattle.serve.specs.Form.{spelled, cut, ending, whole_words}
 use Rattle.serve.specs.Served.{Served, answers_to}
 use Rattle.serve.proofs.Pieces.{Fed, fed_none, fed-more, fed-all, grown, empty_is}
 use Rattle.serve.proofs.form.answers_by_pieces.Goals as goal

@@ -1,7 +1,7 @@
 use Rattle.std.proofs.Common.{vec_items, sym, subst, MatchResult}
 use Rattle.serve.specs.declared.form.Form.{Form}
 use Rattle.serve.specs.Served.{Served, Stopped, Used}
-use Rattle.serve.specs.Form.{spelled, cut}
+use Rattle.serve.specs.Form.{spelled, cut, ending}
 use Rattle.serve.proofs.form.serve_form.Goals as goal
 
 pub returns-in-Frames : goal.returns-in-Frames

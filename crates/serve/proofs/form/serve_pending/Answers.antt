@@ -1,4 +1,4 @@
-use Rattle.std.proofs.Common.{length, vec_items, ap, subst, arith}
+use Rattle.std.proofs.Common.{◌≤◌, length, vec_items, ap, ◌∙◌, subst, arith}
 use Rattle.std.proofs.lemmas.Result.{err_from_is_err_and}
 use Rattle.serve.specs.Served.{Served, Stopped, Used}
 use Rattle.serve.specs.Form.{spelled, cut}

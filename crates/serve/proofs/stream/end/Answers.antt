@@ -1,4 +1,4 @@
-use Rattle.std.proofs.Common.{vec_items, sym, subst, MatchResult}
+use Rattle.std.proofs.Common.{[], ◌∷◌, vec_items, sym, subst, MatchResult}
 use Rattle.frames.specs.Frames.{framed}
 use Rattle.serve.specs.Served.{Served, Stopped}
 use Rattle.serve.proofs.Turns.{served-none, cut-none, cut-some}

@@ -1,4 +1,5 @@
-use Rattle.std.proofs.Common.{vec_items, arith, rules}
+use Rattle.std.proofs.Common.{◌-◌, ◌≤◌, vec_items, arith, rules}
+use Rattle.std.proofs.lemmas.List.{length-take}
 use Rattle.frames.specs.Hex.{hex_line}
 use Rattle.serve.proofs.Turns.{answer-fits, served_silent, wrote_one}
 use Rattle.serve.proofs.stream.serve_line.Goals as goal

@@ -1,4 +1,4 @@
-use Rattle.std.proofs.Common.{◌-◌, vec_items, arith, rules}
+use Rattle.std.proofs.Common.{◌-◌, ◌≤◌, vec_items, arith, rules}
 use Rattle.std.proofs.lemmas.List.{length-take}
 use Rattle.frames.specs.Frames.{framed}
 use Rattle.serve.proofs.Turns.{answer-fits, served_silent, wrote_one}

@@ -1,24 +1,24 @@
 use Rattle.std.proofs.Common.{arith}
-use Rattle.buffer.specs.Memory.{view}
-use Rattle.buffer.proofs.Safety.{within_rows, place_in}
+use Rattle.buffer.specs.View.{view}
+use Rattle.places.proofs.Safety.{within_rows, place_in}
 use Rattle.buffer.proofs.memory.Memory.cell.Goals as goal
 
 pub overflow_mul-place : goal.overflow_mul-place
-overflow_mul-place g c =
-    omega (arith, within_rows (view c.args.self.now) c.args.row c.args.k c.requires.sound c.requires.within.0 c.requires.within.1)
+overflow_mul-place c =
+    omega (arith, within_rows (view c.args.self.now) c.args.row c.args.k c.requires.sound.shaped c.requires.within.0 c.requires.within.1)
 
 pub overflow_add-place : goal.overflow_add-place
-overflow_add-place g c =
-    omega (arith, within_rows (view c.args.self.now) c.args.row c.args.k c.requires.sound c.requires.within.0 c.requires.within.1)
+overflow_add-place c =
+    omega (arith, within_rows (view c.args.self.now) c.args.row c.args.k c.requires.sound.shaped c.requires.within.0 c.requires.within.1)
 
-pub offset_bounds-self-row : goal.offset_bounds-self-row
-offset_bounds-self-row g c =
-    omega (arith, within_rows (view c.args.self.now) c.args.row c.args.k c.requires.sound c.requires.within.0 c.requires.within.1)
+pub offset_bounds-self-row-2 : goal.offset_bounds-self-row-2
+offset_bounds-self-row-2 c =
+    omega (arith, within_rows (view c.args.self.now) c.args.row c.args.k c.requires.sound.shaped c.requires.within.0 c.requires.within.1)
 
-pub bounds-self-row : goal.bounds-self-row
-bounds-self-row g c =
-    within_rows (view c.args.self.now) c.args.row c.args.k c.requires.sound c.requires.within.0 c.requires.within.1
+pub bounds-self-row-2 : goal.bounds-self-row-2
+bounds-self-row-2 c =
+    within_rows (view c.args.self.now) c.args.row c.args.k c.requires.sound.shaped c.requires.within.0 c.requires.within.1
 
 pub bounds-self-place : goal.bounds-self-place
-bounds-self-place g c =
+bounds-self-place c =
     omega (arith, place_in (view c.args.self.now) c.args.row c.args.k c.requires.sound c.requires.within.0 c.requires.within.1, c.requires.sound.heads_reach)

@@ -1,9 +1,0 @@
-use Rattle.buffer.specs.Memory.{view}
-use Rattle.cioq.specs.Spells.{box_of}
-use Rattle.cioq.specs.Choice.{choice_of}
-use Rattle.cioq.proofs.Judging.{Table}
-use Rattle.cioq.proofs.RealBox.gets.Given as goal
-
--- what the inputs before send is noted
-abbrev pub invariant-loop-input : goal.invariant-loop-input
-invariant-loop-input l = Table l.gets l.input (choice_of l.choice) (box_of l.self.lines (view l.self.memory))

@@ -1,5 +1,0 @@
-use Rattle.cioq.proofs.Stays.{transfer_stays}
-use Rattle.cioq.proofs.kept.transfer_stays_within.Goals as goal
-
-pub returns : goal.returns
-returns c = transfer_stays
