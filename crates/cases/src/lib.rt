@@ -6,50 +6,36 @@ ghost use Rattle.cases.specs.Manner.{OursIsTheModels, OursIsAlike};
 ghost use Rattle.cases.specs.Misses.{MissesGoWrong, LeftBehindIsUnstable, ClosedIsNeverLate, LargestIsLargest};
 
 // Every claim of every worked case holds.
-pub fn worked_cases_hold() -> u8
+pub fn worked_cases_hold()
     ensures { CasesHold }
-{
-    0
-}
+{}
 
 // Our box, as one of the manners in which a box may go about its slots, is the model's box.
-pub fn ours_is_the_models() -> u8
+pub fn ours_is_the_models()
     ensures { OursIsTheModels }
-{
-    0
-}
+{}
 
 // So the same cells leave it as leave the ideal box.
-pub fn ours_is_alike() -> u8
+pub fn ours_is_alike()
     ensures { OursIsAlike }
-{
-    0
-}
+{}
 
 // Every near miss goes wrong where the table says.
-pub fn near_misses_go_wrong() -> u8
+pub fn near_misses_go_wrong()
     ensures { MissesGoWrong }
-{
-    0
-}
+{}
 
 // Who is left behind without a reason shows that a choice is not stable.
-pub fn left_behind_is_unstable() -> u8
+pub fn left_behind_is_unstable()
     ensures { LeftBehindIsUnstable }
-{
-    0
-}
+{}
 
 // In a box that turns everything away no cell is ever late.
-pub fn closed_is_never_late() -> u8
+pub fn closed_is_never_late()
     ensures { ClosedIsNeverLate }
-{
-    0
-}
+{}
 
 // What the manner with the largest choices chooses is a choice, and no choice has more cells.
-pub fn largest_is_largest() -> u8
+pub fn largest_is_largest()
     ensures { LargestIsLargest }
-{
-    0
-}
+{}

@@ -14,18 +14,14 @@ use crossbox::{Arrival, Cell};
 use words::Fault;
 
 // A choice is taken just where each cell that it names waits, and it is stable.
-pub fn taken_choices_are_stable() -> u8
+pub fn taken_choices_are_stable()
     ensures { JudgedIsStable }
-{
-    0
-}
+{}
 
 // Of a box in order, a choice by input names just the cells of any stable choice, and each of them waits.
-pub fn stable_choices_are_named() -> u8
+pub fn stable_choices_are_named()
     ensures { StableIsNamed }
-{
-    0
-}
+{}
 
 // Whether no two of the first inputs name cells for one output.
 fn one_for_each(lines: u8, choice: &[Arrival; 32]) -> bool

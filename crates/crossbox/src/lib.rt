@@ -32,183 +32,131 @@ pub fn is_earlier(a: Cell, b: Cell) -> bool
 }
 
 // The ideal box as a plain machine has, after any slots, the queues that the definitions speak of.
-pub fn machine_has_the_queues() -> u8
+pub fn machine_has_the_queues()
     ensures { MachineIsQueues }
-{
-    0
-}
+{}
 
 // The earliest cell of a store that rises is its first.
-pub fn earliest_is_first() -> u8
+pub fn earliest_is_first()
     ensures { EarliestIsFirst }
-{
-    0
-}
+{}
 
 // From a store that rises, departing drops the first cell.
-pub fn departing_drops_the_first() -> u8
+pub fn departing_drops_the_first()
     ensures { DepartDropsFirst }
-{
-    0
-}
+{}
 
 // Arriving takes at most one from the slack of waiting cells.
-pub fn arriving_takes_slack() -> u8
+pub fn arriving_takes_slack()
     ensures { ArriveSlack }
-{
-    0
-}
+{}
 
 // Transferring a stable choice adds at least one to the slack.
-pub fn transferring_adds_slack() -> u8
+pub fn transferring_adds_slack()
     ensures { TransferSlack }
-{
-    0
-}
+{}
 
 // Departing takes at most one from the slack.
-pub fn departing_takes_slack() -> u8
+pub fn departing_takes_slack()
     ensures { DepartSlack }
-{
-    0
-}
+{}
 
 // After every slot each waiting cell has more earlier cells in its store than cells ahead of it.
-pub fn more_are_earlier() -> u8
+pub fn more_are_earlier()
     ensures { MoreEarlier }
-{
-    0
-}
+{}
 
 // After every slot every store rises.
-pub fn stores_rise() -> u8
+pub fn stores_rise()
     ensures { StoresRise }
-{
-    0
-}
+{}
 
 // So it does after the first transfer of a slot, when the earliest depart.
-pub fn stores_rise_transferred() -> u8
+pub fn stores_rise_transferred()
     ensures { StoresRiseTransferred }
-{
-    0
-}
+{}
 
 // After every slot the box holds as many cells for each output as the ideal box.
-pub fn same_held() -> u8
+pub fn same_held()
     ensures { SameHeld }
-{
-    0
-}
+{}
 
 // So it does after the arrivals of the first inputs, for any number of them.
-pub fn same_held_arriving() -> u8
+pub fn same_held_arriving()
     ensures { SameHeldArriving }
-{
-    0
-}
+{}
 
 // So it does after the first transfer.
-pub fn same_held_transferred() -> u8
+pub fn same_held_transferred()
     ensures { SameHeldTransferred }
-{
-    0
-}
+{}
 
 // So it does after the departures.
-pub fn same_held_departed() -> u8
+pub fn same_held_departed()
     ensures { SameHeldDeparted }
-{
-    0
-}
+{}
 
 // The box rejects just the cells that the ideal box rejects.
-pub fn same_rejected() -> u8
+pub fn same_rejected()
     ensures { SameRejected }
-{
-    0
-}
+{}
 
 // Of two waiting cells of one pair the earlier stands first, at the first transfer of a slot.
-pub fn pairs_in_order() -> u8
+pub fn pairs_in_order()
     ensures { PairsInOrder }
-{
-    0
-}
+{}
 
 // So it does at the second transfer.
-pub fn pairs_in_order_again() -> u8
+pub fn pairs_in_order_again()
     ensures { PairsInOrderAgain }
-{
-    0
-}
+{}
 
 // In every slot by every output departs just what departs from the ideal box, for every stable choice.
-pub fn same_departures() -> u8
+pub fn same_departures()
     ensures { SameDepartures }
-{
-    0
-}
+{}
 
 // What is found is a stable choice, where cells stand at their inputs and pairs in order.
-pub fn found_is_stable() -> u8
+pub fn found_is_stable()
     ensures { FoundIsStable }
-{
-    0
-}
+{}
 
 // After as many asks as there are pairs with a waiting cell, the finding has ended.
-pub fn finding_ends() -> u8
+pub fn finding_ends()
     ensures { FindingEnds }
-{
-    0
-}
+{}
 
 // When the finding has ended, it stays as it is.
-pub fn ended_stays() -> u8
+pub fn ended_stays()
     ensures { EndedStays }
-{
-    0
-}
+{}
 
 // There are never more asks than pairs with a waiting cell.
-pub fn asks_are_few() -> u8
+pub fn asks_are_few()
     ensures { AsksAreFew }
-{
-    0
-}
+{}
 
 // In every run what is found is a stable choice for the first transfer of a slot.
-pub fn found_in_run() -> u8
+pub fn found_in_run()
     ensures { FoundInRun }
-{
-    0
-}
+{}
 
 // So it is for the second transfer.
-pub fn found_in_run_again() -> u8
+pub fn found_in_run_again()
     ensures { FoundInRunAgain }
-{
-    0
-}
+{}
 
 // There is always a stable choice for the first transfer of a slot.
-pub fn matched() -> u8
+pub fn matched()
     ensures { Matched }
-{
-    0
-}
+{}
 
 // So there is for the second transfer.
-pub fn matched_again() -> u8
+pub fn matched_again()
     ensures { MatchedAgain }
-{
-    0
-}
+{}
 
 // The promise of the whole.
-pub fn the_promise() -> u8
+pub fn the_promise()
     ensures { Main }
-{
-    0
-}
+{}

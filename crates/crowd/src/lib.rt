@@ -214,15 +214,11 @@ impl<'a> Crowd<'a> {
 }
 
 // For every first choice that is taken, the crowd answers what the ideal box answers to the slot before it.
-pub fn the_same_cells_leave() -> u8
+pub fn the_same_cells_leave()
     ensures { SameAnswer }
-{
-    0
-}
+{}
 
 // So a slot word and a first choice after it are answered as the ideal box answers the slot word.
-pub fn answers_as_the_ideal_box() -> u8
+pub fn answers_as_the_ideal_box()
     ensures { SameAsIdeal }
-{
-    0
-}
+{}

@@ -168,22 +168,16 @@ impl Switch for Fabric<'_> {
 }
 
 // After a slot the lists and stores are the model's, gone over twice by the finding's choices, one cell a line each time.
-pub fn lists_and_stores_are_the_models() -> u8
+pub fn lists_and_stores_are_the_models()
     ensures { TwoTransfers }
-{
-    0
-}
+{}
 
 // The model's box with the finding's choices is reached by a run.
-pub fn the_model_is_a_run() -> u8
+pub fn the_model_is_a_run()
     ensures { ModelIsRun }
-{
-    0
-}
+{}
 
 // What is found is a choice that passes the test of choices.
-pub fn what_is_found_is_taken() -> u8
+pub fn what_is_found_is_taken()
     ensures { FoundIsTaken }
-{
-    0
-}
+{}

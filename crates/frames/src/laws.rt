@@ -4,78 +4,56 @@ ghost use Rattle.frames.specs.Laws.{LinesSplit, LineRoundTrip, LinesRoundTrip, L
 ghost use Rattle.frames.specs.Laws.{DigitsRoundTrip, BlanksPass, CapitalsAreRead};
 
 // Frames are split one after the other, and by pieces as they come.
-pub fn frames_split() -> u8
+pub fn frames_split()
     ensures { FramesSplit }
-{
-    0
-}
+{}
 
 // A word is read back from its frame.
-pub fn frame_round_trip() -> u8
+pub fn frame_round_trip()
     ensures { FrameRoundTrip }
-{
-    0
-}
+{}
 
 // Words are read back from their frames.
-pub fn frames_round_trip() -> u8
+pub fn frames_round_trip()
     ensures { FramesRoundTrip }
-{
-    0
-}
+{}
 
 // Bytes are the frames of their words and what is left.
-pub fn frames_rejoin() -> u8
+pub fn frames_rejoin()
     ensures { FramesRejoin }
-{
-    0
-}
+{}
 
 // Lines are split one after the other, and by pieces as they come.
-pub fn lines_split() -> u8
+pub fn lines_split()
     ensures { LinesSplit }
-{
-    0
-}
+{}
 
 // A word is read back from its digits.
-pub fn digits_round_trip() -> u8
+pub fn digits_round_trip()
     ensures { DigitsRoundTrip }
-{
-    0
-}
+{}
 
 // The digits of a word are read back from its line.
-pub fn line_round_trip() -> u8
+pub fn line_round_trip()
     ensures { LineRoundTrip }
-{
-    0
-}
+{}
 
 // The digits of words are read back from their lines.
-pub fn lines_round_trip() -> u8
+pub fn lines_round_trip()
     ensures { LinesRoundTrip }
-{
-    0
-}
+{}
 
 // Bytes are their lines and what is left.
-pub fn lines_rejoin() -> u8
+pub fn lines_rejoin()
     ensures { LinesRejoin }
-{
-    0
-}
+{}
 
 // A blank changes no word.
-pub fn blanks_pass() -> u8
+pub fn blanks_pass()
     ensures { BlanksPass }
-{
-    0
-}
+{}
 
 // Capital letters are read as small ones.
-pub fn capitals_are_read() -> u8
+pub fn capitals_are_read()
     ensures { CapitalsAreRead }
-{
-    0
-}
+{}

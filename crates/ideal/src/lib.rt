@@ -165,22 +165,16 @@ impl<'a> IdealBox<'a> {
 }
 
 // A slot leaves what lies beyond the settings as it was, and does not depend on it.
-pub fn slot_stays_within_the_settings() -> u8
+pub fn slot_stays_within_the_settings()
     ensures { SlotStaysWithin }
-{
-    0
-}
+{}
 
 // So do new settings.
-pub fn settings_stay_within() -> u8
+pub fn settings_stay_within()
     ensures { SettingsStayWithin }
-{
-    0
-}
+{}
 
 // A slot changes a place's bytes only where a cell is put there.
-pub fn places_keep_their_bytes() -> u8
+pub fn places_keep_their_bytes()
     ensures { PlacesKept }
-{
-    0
-}
+{}

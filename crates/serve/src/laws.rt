@@ -2,8 +2,6 @@
 ghost use Rattle.serve.specs.Laws.{ServedInTurn};
 
 // Words are served in turn, wherever a stream is cut.
-pub fn served_in_turn() -> u8
+pub fn served_in_turn()
     ensures { ServedInTurn }
-{
-    0
-}
+{}

@@ -2,36 +2,26 @@
 ghost use Rattle.steps.specs.Kept.{ArrivalsStayWithin, TransferStaysWithin, DeparturesStayWithin, SettingsStayWithin, PlacesKept};
 
 // Arrivals leave what lies beyond the settings as it was, and do not depend on it.
-pub fn arrivals_stay_within() -> u8
+pub fn arrivals_stay_within()
     ensures { ArrivalsStayWithin }
-{
-    0
-}
+{}
 
 // So does a transfer.
-pub fn transfer_stays_within() -> u8
+pub fn transfer_stays_within()
     ensures { TransferStaysWithin }
-{
-    0
-}
+{}
 
 // So do departures.
-pub fn departures_stay_within() -> u8
+pub fn departures_stay_within()
     ensures { DeparturesStayWithin }
-{
-    0
-}
+{}
 
 // So do new settings.
-pub fn settings_stay_within() -> u8
+pub fn settings_stay_within()
     ensures { SettingsStayWithin }
-{
-    0
-}
+{}
 
 // Arrivals change a place's bytes only where a cell is put there, and the other steps change none.
-pub fn places_keep_their_bytes() -> u8
+pub fn places_keep_their_bytes()
     ensures { PlacesKept }
-{
-    0
-}
+{}

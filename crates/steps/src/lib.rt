@@ -12,15 +12,11 @@ pub use kept::{
 };
 
 // A choice is taken just where each cell that it names waits, and it is stable.
-pub fn taken_choices_are_stable() -> u8
+pub fn taken_choices_are_stable()
     ensures { JudgedIsStable }
-{
-    0
-}
+{}
 
 // Of a box in order, a choice by input names just the cells of any stable choice, and each of them waits.
-pub fn stable_choices_are_named() -> u8
+pub fn stable_choices_are_named()
     ensures { StableIsNamed }
-{
-    0
-}
+{}

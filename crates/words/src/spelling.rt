@@ -3,22 +3,16 @@ ghost use Rattle.words.specs.Answer.{AnswerIsRead};
 ghost use Rattle.words.specs.Spelling.{ReadIsSpelled, WrittenIsRead};
 
 // Bytes are read as lines just where they are these lines one after the other.
-pub fn lines_are_read_as_spelled() -> u8
+pub fn lines_are_read_as_spelled()
     ensures { ReadIsSpelled }
-{
-    0
-}
+{}
 
 // Lines that are written are read back.
-pub fn written_lines_are_read() -> u8
+pub fn written_lines_are_read()
     ensures { WrittenIsRead }
-{
-    0
-}
+{}
 
 // An answer's bytes tell which cells leave and which were turned away.
-pub fn answers_are_read() -> u8
+pub fn answers_are_read()
     ensures { AnswerIsRead }
-{
-    0
-}
+{}
