@@ -8,7 +8,7 @@ use Rattle.std.proofs.lemmas.List.Sums.{sum_by-cons}
 use Rattle.std.proofs.lemmas.Bool.{and_parts, leb-true}
 use Rattle.buffer.specs.declared.Head.{Head}
 use Rattle.buffer.specs.Head.{vacant}
-use Rattle.buffer.specs.Memory.{Mem, Sound, Owned, Distinct, row_length, row, reset, fresh, enough}
+use Rattle.buffer.specs.Memory.{Lent, Mem, Sound, Owned, Distinct, row_length, row, reset, fresh, enough}
 
 sum_zeros : (n : ℕ) → sum (replicate n 0) ≡ 0
 sum_zeros zero = refl
@@ -66,21 +66,21 @@ module _ (m : Mem) (n : ℕ) (s : Sound m) (few : n ≤ 8224) (hs : n ≤ length
         whole = omega (arith, sum_zeros m.count);
       }
 
-module _ (count room : ℕ) (heads : List Head) (cells : List (List ℕ)) (rows spare : List ℕ) (e : enough count room heads cells rows spare ≡ true) where
-  fresh-row : (r : ℕ) → r < count → row (fresh count room heads cells rows spare) r ≡ []
-  fresh-row r h = zero_row (fresh count room heads cells rows spare) r (get_or-replicate count r 0 0 h)
+module _ (count room : ℕ) (l : Lent) (e : enough count room l ≡ true) where
+  fresh-row : (r : ℕ) → r < count → row (fresh count room l) r ≡ []
+  fresh-row r h = zero_row (fresh count room l) r (get_or-replicate count r 0 0 h)
 
-  pub fresh_sound : Sound (fresh count room heads cells rows spare)
+  pub fresh_sound : Sound (fresh count room l)
   fresh_sound =
       record {
         heads_reach = omega arith;
         cells_reach = omega arith;
         spare_reach = omega arith;
-        rows_reach = leb-true (count * room) (length rows) (and_parts _ _ e).0;
+        rows_reach = leb-true (count * room) (length l.rows) (and_parts _ _ e).0;
         lens_count = length-replicate count 0;
         few = omega arith;
         short = λ r h. omega (arith, get_or-replicate {A = ℕ} count r 0 0 h);
-        owned = λ r h. subst (λ (xs : List ℕ). AllByRecursion (Owned (fresh count room heads cells rows spare) (r + 1)) xs) (sym (fresh-row r h)) tt;
+        owned = λ r h. subst (λ (xs : List ℕ). AllByRecursion (Owned (fresh count room l) (r + 1)) xs) (sym (fresh-row r h)) tt;
         apart = λ r h. subst (λ (xs : List ℕ). Distinct xs) (sym (fresh-row r h)) nothing;
         free_owned = tt;
         free_apart = nothing;
@@ -88,11 +88,11 @@ module _ (count room : ℕ) (heads : List Head) (cells : List (List ℕ)) (rows 
       }
 
   -- what is lent is enough for all places
-  pub lent_enough_lem : (8224 ≤ length heads) × (8224 ≤ length cells) × (8224 ≤ length spare)
+  pub lent_enough_lem : (8224 ≤ length l.heads) × (8224 ≤ length l.cells) × (8224 ≤ length l.spare)
   lent_enough_lem =
-      let a = (and_parts (leb (count * room) (length rows)) _ e).1 in
-      let b = (and_parts (leb 8224 (length heads)) _ a).1 in (
-        leb-true 8224 (length heads) (and_parts (leb 8224 (length heads)) _ a).0,
-        leb-true 8224 (length cells) (and_parts (leb 8224 (length cells)) (leb 8224 (length spare)) b).0,
-        leb-true 8224 (length spare) (and_parts (leb 8224 (length cells)) (leb 8224 (length spare)) b).1,
+      let a = (and_parts (leb (count * room) (length l.rows)) _ e).1 in
+      let b = (and_parts (leb 8224 (length l.heads)) _ a).1 in (
+        leb-true 8224 (length l.heads) (and_parts (leb 8224 (length l.heads)) _ a).0,
+        leb-true 8224 (length l.cells) (and_parts (leb 8224 (length l.cells)) (leb 8224 (length l.spare)) b).0,
+        leb-true 8224 (length l.spare) (and_parts (leb 8224 (length l.cells)) (leb 8224 (length l.spare)) b).1,
       )

@@ -7,8 +7,8 @@ use Rattle.crossbox.specs.declared.Cell.{Cell}
 use Rattle.buffer.specs.declared.Head.{Head}
 use Rattle.buffer.specs.Head.{vacant, head_of}
 use Rattle.buffer.specs.Rows.{moved_up, moved_down, edited}
-use Rattle.buffer.specs.Memory.{Mem, Sound, row_length, next, put, place_at, remove, reset}
-use Rattle.buffer.specs.Lent.{Lent, lent_to, beyond, within}
+use Rattle.buffer.specs.Memory.{Lent, Mem, Sound, row_length, next, put, place_at, remove, reset}
+use Rattle.buffer.specs.Lent.{lent_to, beyond, within}
 use Rattle.buffer.proofs.Safety.{row_end, row_few, next_in, place_in}
 use Rattle.buffer.proofs.Parts.{edited_above, length_up, length_down}
 

@@ -1,14 +1,6 @@
--- What is lent, as plain lists: the part that the settings need, and what lies beyond it. Assumes nothing.
-use Rattle.std.specs.Prelude.{ℕ, List, take, drop}
-use Rattle.buffer.specs.declared.Head.{Head}
-use Rattle.buffer.specs.Memory.{Mem}
-
--- all that the caller lends
-pub record Lent : Type 0 where
-  pub heads : List Head
-  pub cells : List (List ℕ)
-  pub rows : List ℕ
-  pub spare : List ℕ
+-- What is lent to a memory: the part that the settings need, and what lies beyond it. Assumes nothing.
+use Rattle.std.specs.Prelude.{ℕ, take, drop}
+use Rattle.buffer.specs.Memory.{Lent, Mem}
 
 -- what is lent to a memory
 abbrev pub lent_to : Mem → Lent

@@ -3,9 +3,21 @@ use Rattle.std.specs.Prelude.{◌≡◌, ℕ, ◌+◌, ◌-◌, ◌*◌, ◌<◌
 use Rattle.std.specs.List.{range_with_len, AllByRecursion}
 use Rattle.crossbox.specs.declared.Cell.{Cell}
 use Rattle.buffer.specs.declared.Head.{Head}
+use Rattle.buffer.specs.declared.Loan.{Loan}
 use Rattle.buffer.specs.declared.memory.Memory.{Memory}
 use Rattle.buffer.specs.Head.{vacant, head_of, cell_of}
 use Rattle.buffer.specs.Rows.{moved_up, moved_down, edited}
+
+-- all that the caller lends, as plain lists
+pub record Lent : Type 0 where
+  pub heads : List Head
+  pub cells : List (List ℕ)
+  pub rows : List ℕ
+  pub spare : List ℕ
+
+-- what a loan lends
+abbrev pub lent_by : Loan → Lent
+lent_by l = record { heads = l.heads.now; cells = l.cells.now; rows = l.rows.now; spare = l.spare.now }
 
 -- all that there is: the lent lists, the length of each row, how many places are free and in use, the room
 -- of a row, and how many rows there are
@@ -36,19 +48,19 @@ view {ROWS} {ROOM} m =
     }
 
 -- whether what is lent is as much as all places and so many rows need
-abbrev pub enough : ℕ → ℕ → List Head → List (List ℕ) → List ℕ → List ℕ → Bool
-enough count room heads cells rows spare =
-    nat_le (count * room) (length rows) &&
-    (nat_le 8224 (length heads) && (nat_le 8224 (length cells) && nat_le 8224 (length spare)))
+abbrev pub enough : ℕ → ℕ → Lent → Bool
+enough count room l =
+    nat_le (count * room) (length l.rows) &&
+    (nat_le 8224 (length l.heads) && (nat_le 8224 (length l.cells) && nat_le 8224 (length l.spare)))
 
--- a memory in which no place is in use
-abbrev pub fresh : ℕ → ℕ → List Head → List (List ℕ) → List ℕ → List ℕ → Mem
-fresh count room heads cells rows spare =
+-- a memory over what is lent, in which no place is in use
+abbrev pub fresh : ℕ → ℕ → Lent → Mem
+fresh count room l =
     record {
-      heads = heads;
-      cells = cells;
-      rows = rows;
-      spare = spare;
+      heads = l.heads;
+      cells = l.cells;
+      rows = l.rows;
+      spare = l.spare;
       lens = replicate count 0;
       free = 0;
       places = 0;

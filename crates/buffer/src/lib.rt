@@ -31,6 +31,15 @@ pub struct Head {
     pub owner: u16,
 }
 
+// What a caller lends to a box: by place, the heads of cells and their bytes; rows of places; and the row of free places.
+#[derive(Drop)]
+pub struct Loan<'a> {
+    pub heads: &'a mut [Head],
+    pub cells: &'a mut [[u8; BODY]],
+    pub rows: &'a mut [u16],
+    pub spare: &'a mut [u16],
+}
+
 impl Head {
     pub const VACANT: Head = Head {
         slot: 0,

@@ -1,26 +1,23 @@
 // The lent memory of a box with ROWS rows of room for ROOM places each.
 ghost use Rattle.std.specs.Prelude.{◌≡◌, ℕ, ◌+◌, ◌-◌, ◌*◌, ◌<◌, ◌≤◌, true, false, [], ◌∷◌, ◌++◌, length, replicate, MatchOption, ◌≢◌, nat_le, slice_index_or};
 ghost use Rattle.buffer.specs.Head.{cell_of, vacant};
-ghost use Rattle.buffer.specs.Memory.{Mem, view, Sound, enough, fresh, put as put_cell, remove as remove_cell, carry as carry_cell, reset as reset_places, place_at, row_length, head_at};
+ghost use Rattle.buffer.specs.Memory.{Mem, view, Sound, lent_by, enough, fresh, put as put_cell, remove as remove_cell, carry as carry_cell, reset as reset_places, place_at, row_length, head_at};
 
 use crate::rows::{move_down, move_up, number, vacate};
-use crate::{Free, Head, PLACES};
+use crate::{BODY, Free, Head, Loan, PLACES};
 use crossbox::Cell;
 
 // Whether so many rows of such a room fit a length.
 fn rows_fit(count: usize, room: usize, len: usize) -> bool
     ensures { result ≡ nat_le (count * room) len }
 {
-    match count.checked_mul(room) {
-        Some(size) => size <= len,
-        None => false,
-    }
+    count.checked_mul(room).is_some_and(|size| size <= len)
 }
 
 #[derive(Drop)]
 pub struct Memory<'a, const ROWS: usize, const ROOM: usize> {
     heads: &'a mut [Head],
-    cells: &'a mut [[u8; 64]],
+    cells: &'a mut [[u8; BODY]],
     rows: &'a mut [u16],
     spare: &'a mut [u16],
     lens: [u16; ROWS],
@@ -30,14 +27,15 @@ pub struct Memory<'a, const ROWS: usize, const ROOM: usize> {
 
 impl<'a, const ROWS: usize, const ROOM: usize> Memory<'a, ROWS, ROOM> {
     // A box's memory over what the caller lends, with no place in use yet; None where that is too little.
-    pub fn new(
-        heads: &'a mut [Head],
-        cells: &'a mut [[u8; 64]],
-        rows: &'a mut [u16],
-        spare: &'a mut [u16],
-    ) -> Option<Memory<'a, ROWS, ROOM>>
-        ensures { MatchOption result (enough ROWS ROOM heads.old cells.old rows.old spare.old ≡ false) (λ m. (enough ROWS ROOM heads.old cells.old rows.old spare.old ≡ true) × (view m ≡ fresh ROWS ROOM heads.old cells.old rows.old spare.old)) }
+    pub fn new(loan: Loan<'a>) -> Option<Memory<'a, ROWS, ROOM>>
+        ensures { MatchOption result (enough ROWS ROOM (lent_by loan.entry) ≡ false) (λ m. (enough ROWS ROOM (lent_by loan.entry) ≡ true) × (view m ≡ fresh ROWS ROOM (lent_by loan.entry))) }
     {
+        let Loan {
+            heads,
+            cells,
+            rows,
+            spare,
+        } = loan;
         let long = rows_fit(ROWS, ROOM, rows.len());
         if !long || heads.len() < PLACES || cells.len() < PLACES || spare.len() < PLACES {
             return None;
@@ -86,7 +84,7 @@ impl<'a, const ROWS: usize, const ROOM: usize> Memory<'a, ROWS, ROOM> {
     }
 
     // The bytes of that cell.
-    pub fn body<'s>(&'s self, row: u8, k: usize) -> &'s [u8; 64]
+    pub fn body(&self, row: u8, k: usize) -> &[u8; BODY]
         requires sound { Sound (view self.now) }
         requires within { (row < ROWS) × (k < row_length (view self.now) row) }
         ensures { result.now ≡ slice_index_or (view self.now).cells (place_at row k (view self.now)) [] }
@@ -97,7 +95,7 @@ impl<'a, const ROWS: usize, const ROOM: usize> Memory<'a, ROWS, ROOM> {
     }
 
     // Puts a cell with its bytes behind the first k of a row.
-    pub fn put(&mut self, row: u8, k: usize, cell: Cell, body: [u8; 64])
+    pub fn put(&mut self, row: u8, k: usize, cell: Cell, body: [u8; BODY])
         requires sound { Sound (view self.old) }
         requires within { (row < ROWS) × (k ≤ row_length (view self.old) row) × (row_length (view self.old) row < ROOM) }
         requires left { 0 < (view self.old).free }

@@ -10,11 +10,9 @@ use crate::Head;
 pub fn move_up(part: &mut [u16], place: u16)
     ensures { part.new ≡ moved_up place part.old }
 {
-    let mut carried = place;
-    for x in part.iter_mut() {
-        let next = *x;
-        *x = carried;
-        carried = next;
+    if let Some(kept) = part.len().checked_sub(1) {
+        part.copy_within(..kept, 1);
+        part[0] = place;
     }
 }
 
@@ -30,9 +28,7 @@ pub fn move_down(part: &mut [u16])
 pub fn vacate(heads: &mut [Head])
     ensures { heads.new ≡ replicate (length heads.old) vacant }
 {
-    for head in heads.iter_mut() {
-        *head = Head::VACANT;
-    }
+    heads.fill(Head::VACANT);
 }
 
 // Numbers the places of a part from 0 on.
@@ -40,9 +36,7 @@ pub fn number(spare: &mut [u16])
     requires { length spare.old ≤ 8224 }
     ensures { spare.new ≡ range_with_len 0 (length spare.old) }
 {
-    let mut place = 0u16;
-    for x in spare.iter_mut() {
-        *x = place;
-        place += 1;
+    for (place, x) in spare.iter_mut().enumerate() {
+        *x = place as u16;
     }
 }

@@ -2,7 +2,8 @@
 use Rattle.std.proofs.Common.{◌≡◌, ℕ, ◌*◌, ◌<◌, ◌≤◌, Bool, false, cond, eqb, leb, List, [], drop, Ok, Err, Option, Result, sym, refl, ap, ◌∙◌, subst, inl, inr, ⊎_elim, arith}
 use Rattle.std.proofs.lemmas.Bool.{ne_eqb, cond-false}
 use Rattle.crossbox.specs.Promise.{AllFit}
-use Rattle.buffer.specs.Lent.{Lent, lent_to, beyond}
+use Rattle.buffer.specs.Memory.{Lent}
+use Rattle.buffer.specs.Lent.{lent_to, beyond}
 use Rattle.words.specs.declared.fault.Fault.{Fault}
 use Rattle.words.specs.declared.fault.Fault.TheVariants.{Malformed, NoSuchOutput, SlotLimit}
 use Rattle.words.specs.declared.read.Kind.{Kind}

@@ -2,7 +2,8 @@
 use Rattle.std.proofs.Common.{◌≡◌, ℕ, ◌*◌, ◌⊎◌, List, [], ◌∷◌, map, length, get_or, take, drop, sym, ap, ◌∙◌, subst, inl, arith}
 use Rattle.std.specs.List.{range_with_len}
 use Rattle.crossbox.specs.Ideal.{departure, rejected}
-use Rattle.buffer.specs.Lent.{Lent, beyond}
+use Rattle.buffer.specs.Memory.{Lent}
+use Rattle.buffer.specs.Lent.{beyond}
 use Rattle.words.specs.declared.fault.Fault.{Fault}
 use Rattle.words.specs.Lines.{Line}
 use Rattle.words.specs.Writing.{overwrite, refusal_bytes}

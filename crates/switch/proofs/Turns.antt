@@ -9,8 +9,8 @@ use Rattle.crossbox.specs.declared.Cell.{Cell}
 use Rattle.crossbox.specs.Cells.{Arrivals}
 use Rattle.crossbox.specs.Ideal.{admitted, first, queue, departure, full, rejected}
 use Rattle.buffer.specs.declared.Head.{Head}
-use Rattle.buffer.specs.Memory.{Mem, held_at, enough, fresh}
-use Rattle.buffer.specs.Lent.{Lent, lent_to, beyond}
+use Rattle.buffer.specs.Memory.{Lent, Mem, held_at, enough, fresh}
+use Rattle.buffer.specs.Lent.{lent_to, beyond}
 use Rattle.buffer.proofs.Reset.{reset-row}
 use Rattle.words.specs.declared.fault.Fault.{Fault}
 use Rattle.words.specs.declared.fault.Fault.TheVariants.{Malformed, LineCount, NoSuchOutput, SlotLimit}

@@ -3,7 +3,8 @@ use Rattle.std.specs.Prelude.{◌≡◌, ℕ, ◌*◌, ◌<◌, false, ◌⊎◌
 use Rattle.crossbox.specs.declared.Arrival.TheVariants.{For}
 use Rattle.crossbox.specs.Ideal.{rejected}
 use Rattle.buffer.specs.Head.{vacant}
-use Rattle.buffer.specs.Lent.{Lent, beyond}
+use Rattle.buffer.specs.Memory.{Lent}
+use Rattle.buffer.specs.Lent.{beyond}
 use Rattle.words.specs.Lines.{Line}
 use Rattle.words.specs.declared.fault.Fault.{Fault}
 use Rattle.switch.specs.Respond.Status.{Unset, Running}

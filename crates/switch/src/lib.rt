@@ -2,7 +2,7 @@
 #![tactic(auto)]
 
 ghost use Rattle.std.specs.Prelude.{◌≡◌, ℕ, List};
-ghost use Rattle.buffer.specs.Lent.{Lent};
+ghost use Rattle.buffer.specs.Memory.{Lent};
 ghost use Rattle.switch.specs.Respond.{Status, respond};
 ghost use Rattle.switch.specs.Promise.{Answers, Keeps};
 

@@ -3,13 +3,8 @@ use Rattle.std.proofs.lemmas.List.Edits.{fill_by_more}
 use Rattle.buffer.proofs.Lists.{number_all}
 use Rattle.buffer.proofs.rows.number.Goals as goal
 
-pub loop-x-preserved : goal.loop-x-preserved
-loop-x-preserved c =
-    let e : c.loop-x.place ≡ c.loop-x.x-index = c.loop-x.invariant.0 in (
-      omega arith,
-      rw e (fill_by_more (λ k. k) c.loop-x.spare c.loop-x.x-index 0 (omega arith) c.loop-x.invariant.1),
-    )
+pub loop-place-preserved : goal.loop-place-preserved
+loop-place-preserved c = fill_by_more (λ k. k) c.loop-place.spare c.loop-place.place 0 (omega arith) c.loop-place.invariant
 
 pub returns : goal.returns
-returns c =
-    number_all c.loop-x.spare c.loop-x.x-index _ (omega arith) c.loop-x.auto.spare c.loop-x.invariant.1
+returns c = number_all c.loop-place.spare c.loop-place.place _ (omega arith) c.loop-place.auto.spare c.loop-place.invariant
