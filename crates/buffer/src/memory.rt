@@ -74,6 +74,7 @@ impl<'a, const ROWS: usize, const ROOM: usize> Memory<'a, ROWS, ROOM> {
     }
 
     // The cell behind the first k of a row.
+    #[tactic(auto, using(crate::proofs::Safety::within_rows, crate::proofs::Safety::place_in))]
     pub fn cell(&self, row: u8, k: usize) -> Cell
         requires sound { Sound (view self.now) }
         requires within { (row < ROWS) × (k < row_length (view self.now) row) }
@@ -84,6 +85,7 @@ impl<'a, const ROWS: usize, const ROOM: usize> Memory<'a, ROWS, ROOM> {
     }
 
     // The bytes of that cell.
+    #[tactic(auto, using(crate::proofs::Safety::within_rows, crate::proofs::Safety::place_in))]
     pub fn body(&self, row: u8, k: usize) -> &[u8; BODY]
         requires sound { Sound (view self.now) }
         requires within { (row < ROWS) × (k < row_length (view self.now) row) }
@@ -95,6 +97,7 @@ impl<'a, const ROWS: usize, const ROOM: usize> Memory<'a, ROWS, ROOM> {
     }
 
     // Puts a cell with its bytes behind the first k of a row.
+    #[tactic(auto, using(crate::proofs::Safety::within_rows, crate::proofs::Safety::place_in, crate::proofs::Safety::row_end, crate::proofs::Safety::row_few, crate::proofs::Safety::next_in))]
     pub fn put(&mut self, row: u8, k: usize, cell: Cell, body: [u8; BODY])
         requires sound { Sound (view self.old) }
         requires within { (row < ROWS) × (k ≤ row_length (view self.old) row) × (row_length (view self.old) row < ROOM) }
@@ -113,6 +116,7 @@ impl<'a, const ROWS: usize, const ROOM: usize> Memory<'a, ROWS, ROOM> {
     }
 
     // Lets go what stands behind the first k of a row, and makes its place free.
+    #[tactic(auto, using(crate::proofs::Safety::within_rows, crate::proofs::Safety::place_in, crate::proofs::Safety::row_end, crate::proofs::Safety::row_few, crate::proofs::Safety::next_in))]
     pub fn remove(&mut self, row: u8, k: usize)
         requires sound { Sound (view self.old) }
         requires within { (row < ROWS) × (k < row_length (view self.old) row) }
@@ -130,6 +134,7 @@ impl<'a, const ROWS: usize, const ROOM: usize> Memory<'a, ROWS, ROOM> {
     }
 
     // Carries what stands behind the first k of one row behind the first j of another.
+    #[tactic(auto, using(crate::proofs::Safety::within_rows, crate::proofs::Safety::place_in, crate::proofs::Safety::row_end, crate::proofs::Safety::row_few, crate::proofs::Safety::next_in))]
     pub fn carry(&mut self, from: u8, k: usize, to: u8, j: usize)
         requires sound { Sound (view self.old) }
         requires within { (from < ROWS) × (k < row_length (view self.old) from) }

@@ -6,8 +6,8 @@ use Rattle.std.proofs.lemmas.Bool.{and_parts, leb-true}
 use Rattle.crossbox.specs.declared.Cell.{Cell}
 use Rattle.crossbox.specs.Box.{empty, held_for, for_output}
 use Rattle.buffer.specs.declared.Head.{Head}
-use Rattle.buffer.specs.Memory.{held_at, held, enough, fresh, reset}
-use Rattle.buffer.proofs.Reset.{fresh_sound, reset_sound, reset-row}
+use Rattle.buffer.specs.Memory.{Lent, held_at, held, enough, fresh, reset}
+use Rattle.buffer.proofs.Reset.{lent_enough_lem, fresh_sound, reset_sound, reset-row}
 use Rattle.cioq.specs.State.{State, Good, unset, begun}
 use Rattle.cioq.specs.Spells.{Spells, Counts}
 
@@ -17,13 +17,10 @@ zeros (suc n) zero = refl
 zeros (suc n) (suc o) = zeros n o
 
 -- a box that is made is good
-pub made_good : (heads : List Head) (cells : List (List ℕ)) (rows spare : List ℕ) → enough 64 8224 heads cells rows spare ≡ true → Good (unset (fresh 64 8224 heads cells rows spare))
-made_good heads cells rows spare e =
-    let p = and_parts _ _ e in
-    let q = and_parts _ _ p.1 in
-    let r = and_parts _ _ q.1 in
+pub made_good : (l : Lent) → enough 64 8224 l ≡ true → Good (unset (fresh 64 8224 l))
+made_good l e =
     record {
-      sound = fresh_sound 64 8224 heads cells rows spare e;
+      sound = fresh_sound 64 8224 l e;
       rooms = refl;
       rows = refl;
       places = refl;
@@ -32,9 +29,9 @@ made_good heads cells rows spare e =
       full = λ o. omega (arith, zeros 32 o);
       idle = λ o h. zeros 32 o;
       whole = refl;
-      heads_lent = leb-true 8224 (length heads) q.0;
-      cells_lent = leb-true 8224 (length cells) r.0;
-      spare_lent = leb-true 8224 (length spare) r.1;
+      heads_lent = (lent_enough_lem 64 8224 l e).0;
+      cells_lent = (lent_enough_lem 64 8224 l e).1;
+      spare_lent = (lent_enough_lem 64 8224 l e).2;
     }
 
 none-held : (n o : ℕ) → held_for n o empty ≡ 0

@@ -3,7 +3,7 @@
 
 ghost use Rattle.std.specs.Prelude.{◌≡◌, ℕ, ◌+◌, ◌*◌, ◌^◌, ◌<◌, ◌≤◌, true, false, length, MatchOption, slice_index_or};
 ghost use Rattle.crossbox.specs.Cells.{count_earlier};
-ghost use Rattle.buffer.specs.Memory.{enough, fresh};
+ghost use Rattle.buffer.specs.Memory.{lent_by, enough, fresh};
 ghost use Rattle.cioq.specs.State.{State, state, Good, unset, begun, passed};
 ghost use Rattle.cioq.specs.Spells.{box_of};
 
@@ -16,7 +16,7 @@ mod search;
 mod transfer;
 
 use crate::search::count_earlier;
-use buffer::{Head, Memory};
+use buffer::{Loan, Memory};
 use crossbox::Cell;
 pub use judge::{stable_choices_are_named, taken_choices_are_stable};
 pub use kept::{
@@ -46,23 +46,16 @@ pub struct RealBox<'a> {
 
 impl<'a> RealBox<'a> {
     // A box over what the caller lends, with no lines yet; None where that is too little.
-    pub fn new(
-        heads: &'a mut [Head],
-        cells: &'a mut [[u8; 64]],
-        rows: &'a mut [u16],
-        spare: &'a mut [u16],
-    ) -> Option<RealBox<'a>>
-        ensures { MatchOption result (enough 64 8224 heads.old cells.old rows.old spare.old ≡ false) (λ b. (enough 64 8224 heads.old cells.old rows.old spare.old ≡ true) × (state b ≡ unset (fresh 64 8224 heads.old cells.old rows.old spare.old))) }
+    pub fn new(loan: Loan<'a>) -> Option<RealBox<'a>>
+        ensures { MatchOption result (enough 64 8224 (lent_by loan.entry) ≡ false) (λ b. (enough 64 8224 (lent_by loan.entry) ≡ true) × (state b ≡ unset (fresh 64 8224 (lent_by loan.entry)))) }
     {
-        match Memory::new(heads, cells, rows, spare) {
-            Some(memory) => Some(RealBox {
-                memory,
-                held: [0; 32],
-                lines: 0,
-                now: 0,
-            }),
-            None => None,
-        }
+        let memory = Memory::new(loan)?;
+        Some(RealBox {
+            memory,
+            held: [0; 32],
+            lines: 0,
+            now: 0,
+        })
     }
 
     // How many lines there are; 0 before the first settings.

@@ -3,7 +3,7 @@
 
 ghost use Rattle.std.specs.Prelude.{◌≡◌, ℕ, ◌≤◌, Bool, true, false, List, ◌∷◌, take, Ok, MatchOption, nat_le};
 ghost use Rattle.crossbox.specs.Box.{Box};
-ghost use Rattle.buffer.specs.Memory.{enough};
+ghost use Rattle.buffer.specs.Memory.{lent_by, enough};
 ghost use Rattle.words.specs.Lines.{Line, settings, judge, verdict};
 ghost use Rattle.cioq.specs.Arrivals.{arrivals_of};
 ghost use Rattle.cioq.specs.Choice.{choice_of};
@@ -16,7 +16,7 @@ ghost use Rattle.crowd.specs.Promise.{Answers, Keeps, SameAnswer, SameAsIdeal};
 
 mod print;
 
-use buffer::Head;
+use buffer::Loan;
 use cioq::RealBox;
 use crossbox::Arrival;
 pub use print::{Part, differs, next_part};
@@ -95,22 +95,15 @@ fn read_choice(lines: u8, bytes: &[u8]) -> [Arrival; 32]
 
 impl<'a> Crowd<'a> {
     // A crowd over what the caller lends, with no lines yet; None where that is too little.
-    pub fn new(
-        heads: &'a mut [Head],
-        cells: &'a mut [[u8; 64]],
-        rows: &'a mut [u16],
-        spare: &'a mut [u16],
-    ) -> Option<Crowd<'a>>
-        ensures { MatchOption result (enough 64 8224 heads.old cells.old rows.old spare.old ≡ false) (λ c. (enough 64 8224 heads.old cells.old rows.old spare.old ≡ true) × Shows (state c) Unset) }
+    pub fn new(loan: Loan<'a>) -> Option<Crowd<'a>>
+        ensures { MatchOption result (enough 64 8224 (lent_by loan.entry) ≡ false) (λ c. (enough 64 8224 (lent_by loan.entry) ≡ true) × Shows (state c) Unset) }
     {
-        match RealBox::new(heads, cells, rows, spare) {
-            Some(real) => Some(Crowd {
-                real,
-                due: Due::Unset,
-                away: [false; 32],
-            }),
-            None => None,
-        }
+        let real = RealBox::new(loan)?;
+        Some(Crowd {
+            real,
+            due: Due::Unset,
+            away: [false; 32],
+        })
     }
 
     // Takes a settings word.

@@ -9,7 +9,7 @@ use Rattle.crossbox.specs.Matching.{find}
 use Rattle.crossbox.specs.Promise.{AllFit}
 use Rattle.crossbox.proofs.Promise.{found_in_run, found_in_run_again}
 use Rattle.buffer.specs.declared.Head.{Head}
-use Rattle.buffer.specs.Memory.{enough, fresh}
+use Rattle.buffer.specs.Memory.{Lent, enough, fresh}
 use Rattle.matching.specs.Table.{shown, ended}
 use Rattle.cioq.specs.State.{State, unset}
 use Rattle.cioq.specs.Choice.{choice_of, waits_in, all_wait}
@@ -56,6 +56,6 @@ found_is_taken r n b p f =
     all (suc k) = and_from (waits_in (choice_of r.choice k) (b.waiting k)) (all_wait k (choice_of r.choice) b) (waits k ((ended n b).kept k) refl) (all k)
 
 -- a box that was made is not set
-pub made_unset : (heads : List Head) (cells : List (List ℕ)) (rows spare : List ℕ) (s : State) → enough 64 8224 heads cells rows spare ≡ true → s ≡ unset (fresh 64 8224 heads cells rows spare) → Shows s Unset
-made_unset heads cells rows spare s e q =
-    subst (λ (z : State). Shows z Unset) (sym q) (made_good heads cells rows spare e, refl)
+pub made_unset : (l : Lent) (s : State) → enough 64 8224 l ≡ true → s ≡ unset (fresh 64 8224 l) → Shows s Unset
+made_unset l s e q =
+    subst (λ (z : State). Shows z Unset) (sym q) (made_good l e, refl)

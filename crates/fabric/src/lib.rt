@@ -7,7 +7,7 @@ ghost use Rattle.matching.specs.Making.{TableOf};
 ghost use Rattle.matching.specs.Table.{Finds};
 ghost use Rattle.cioq.specs.Arrivals.{slot_lines};
 ghost use Rattle.cioq.specs.State.{state, Good, Aimed, unset};
-ghost use Rattle.buffer.specs.Memory.{enough, fresh};
+ghost use Rattle.buffer.specs.Memory.{lent_by, enough, fresh};
 ghost use Rattle.words.specs.Lines.{settings, judge, verdict};
 ghost use Rattle.switch.specs.Respond.{SlotIn};
 ghost use Rattle.switch.specs.Respond.Status.{Unset};
@@ -17,7 +17,7 @@ ghost use Rattle.fabric.specs.Laws.{TwoTransfers, FoundIsTaken, ModelIsRun};
 ghost use Rattle.fabric.specs.Turns.{Settled, Slotted, step_of};
 ghost use Rattle.fabric.specs.Served.{Served};
 
-use buffer::Head;
+use buffer::Loan;
 use cioq::RealBox;
 use matching::{Firsts, Found, find};
 use switch::Switch;
@@ -76,21 +76,14 @@ fn choose(real: &RealBox<'_>, firsts: &mut Firsts) -> Found
 
 impl<'a> Fabric<'a> {
     // A box over what the caller lends, with no lines yet; None where that is too little.
-    pub fn new(
-        heads: &'a mut [Head],
-        cells: &'a mut [[u8; 64]],
-        rows: &'a mut [u16],
-        spare: &'a mut [u16],
-    ) -> Option<Fabric<'a>>
-        ensures { MatchOption result (enough 64 8224 heads.old cells.old rows.old spare.old ≡ false) (λ b. (enough 64 8224 heads.old cells.old rows.old spare.old ≡ true) × Shows (state b.real) Unset × ((state b.real).mem ≡ fresh 64 8224 heads.old cells.old rows.old spare.old)) }
+    pub fn new(loan: Loan<'a>) -> Option<Fabric<'a>>
+        ensures { MatchOption result (enough 64 8224 (lent_by loan.entry) ≡ false) (λ b. (enough 64 8224 (lent_by loan.entry) ≡ true) × Shows (state b.real) Unset × ((state b.real).mem ≡ fresh 64 8224 (lent_by loan.entry))) }
     {
-        match RealBox::new(heads, cells, rows, spare) {
-            Some(real) => Some(Fabric {
-                real,
-                firsts: Firsts::new(),
-            }),
-            None => None,
-        }
+        let real = RealBox::new(loan)?;
+        Some(Fabric {
+            real,
+            firsts: Firsts::new(),
+        })
     }
 
     // Serves a slot whose lines have been judged good: writes the answer, and gives its length.

@@ -7,7 +7,7 @@ use Rattle.crossbox.specs.declared.Arrival.{Arrival}
 use Rattle.crossbox.specs.declared.Arrival.TheVariants.{Nothing, For}
 use Rattle.crossbox.specs.declared.Cell.{Cell}
 use Rattle.buffer.specs.declared.Head.{Head}
-use Rattle.buffer.specs.Memory.{Mem, row_length, put, remove, fresh, enough}
+use Rattle.buffer.specs.Memory.{Lent, Mem, row_length, put, remove, fresh, enough}
 use Rattle.buffer.proofs.Put.{put_sound}
 use Rattle.buffer.proofs.Remove.{remove_sound}
 use Rattle.buffer.proofs.Reset.{reset_sound, fresh_sound, lent_enough_lem}
@@ -121,16 +121,16 @@ begun_good s n g h =
       spare_lent = simp (length-append, length-range_with_len, length-drop) (omega (arith, g.spare_lent));
     }
 
-pub unset_good : (heads : List Head) (cells : List (List ℕ)) (rows spare : List ℕ) → enough 32 256 heads cells rows spare ≡ true → Good (unset (fresh 32 256 heads cells rows spare))
-unset_good heads cells rows spare e =
+pub unset_good : (l : Lent) → enough 32 256 l ≡ true → Good (unset (fresh 32 256 l))
+unset_good l e =
     record {
-      sound = fresh_sound 32 256 heads cells rows spare e;
+      sound = fresh_sound 32 256 l e;
       rooms = refl;
       queues = refl;
       places = refl;
       few = omega arith;
       idle = λ r l i. get_or-replicate {A = ℕ} 32 r 0 0 i;
-      heads_lent = (lent_enough_lem 32 256 heads cells rows spare e).0;
-      cells_lent = (lent_enough_lem 32 256 heads cells rows spare e).1;
-      spare_lent = (lent_enough_lem 32 256 heads cells rows spare e).2;
+      heads_lent = (lent_enough_lem 32 256 l e).0;
+      cells_lent = (lent_enough_lem 32 256 l e).1;
+      spare_lent = (lent_enough_lem 32 256 l e).2;
     }

@@ -2,14 +2,14 @@
 #![tactic(auto)]
 
 ghost use Rattle.std.specs.Prelude.{◌≡◌, ℕ, ◌+◌, ◌*◌, ◌^◌, ◌<◌, ◌≤◌, true, false, List, [], length, MatchOption, slice_index_or};
-ghost use Rattle.buffer.specs.Memory.{enough, fresh};
+ghost use Rattle.buffer.specs.Memory.{lent_by, enough, fresh};
 ghost use Rattle.words.specs.Writing.{overwrite};
 ghost use Rattle.ideal.specs.Kept.{SlotStaysWithin, SettingsStayWithin, PlacesKept};
 ghost use Rattle.ideal.specs.State.{State, state, Good, unset, begun};
 ghost use Rattle.ideal.specs.Steps.{Brings, Reads, lines_of, admit_one, admitted, away, turned_away, departing, departed, departure_of, departures, served, leavers, rejects};
 ghost use Rattle.words.specs.Answer.{Departure, Written, leaving};
 
-use buffer::{Head, Memory};
+use buffer::{Loan, Memory};
 use crossbox::{Arrival, Cell};
 use words::{ANSWER, BODY, NONE, body_of, read_entry, write_byte, write_departure, write_flags};
 
@@ -28,22 +28,15 @@ pub struct IdealBox<'a> {
 
 impl<'a> IdealBox<'a> {
     // A box over what the caller lends, with no lines yet; None where that is too little.
-    pub fn new(
-        heads: &'a mut [Head],
-        cells: &'a mut [[u8; 64]],
-        rows: &'a mut [u16],
-        spare: &'a mut [u16],
-    ) -> Option<IdealBox<'a>>
-        ensures { MatchOption result (enough 32 256 heads.old cells.old rows.old spare.old ≡ false) (λ b. (enough 32 256 heads.old cells.old rows.old spare.old ≡ true) × (state b ≡ unset (fresh 32 256 heads.old cells.old rows.old spare.old))) }
+    pub fn new(loan: Loan<'a>) -> Option<IdealBox<'a>>
+        ensures { MatchOption result (enough 32 256 (lent_by loan.entry) ≡ false) (λ b. (enough 32 256 (lent_by loan.entry) ≡ true) × (state b ≡ unset (fresh 32 256 (lent_by loan.entry)))) }
     {
-        match Memory::new(heads, cells, rows, spare) {
-            Some(memory) => Some(IdealBox {
-                memory,
-                lines: 0,
-                now: 0,
-            }),
-            None => None,
-        }
+        let memory = Memory::new(loan)?;
+        Some(IdealBox {
+            memory,
+            lines: 0,
+            now: 0,
+        })
     }
 
     // How many lines there are; 0 before the first settings.

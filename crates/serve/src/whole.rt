@@ -1,13 +1,13 @@
 // A whole stream in one call: its bytes in, the answers' bytes out.
 ghost use Rattle.std.specs.Prelude.{◌≡◌, true, replicate, IfOk, MatchResult};
 ghost use Rattle.std.specs.List.{flat_map};
-ghost use Rattle.buffer.specs.Memory.{enough};
+ghost use Rattle.buffer.specs.Memory.{lent_by, enough};
 ghost use Rattle.frames.specs.Frames.{framed};
 ghost use Rattle.switch.specs.Respond.Status.{Unset};
 ghost use Rattle.serve.specs.Served.{answers_to, stream_words, Fails};
 
 use crate::stream::serve_whole;
-use buffer::Head;
+use buffer::Loan;
 use ideal::IdealBox;
 use std::alloc::{AllocError, Global};
 use std::fmt;
@@ -52,17 +52,10 @@ pub fn answers_of<S: Switch>(
 }
 
 // The answers of the ideal box to a whole stream of frames, whatever its bytes are and whatever is lent.
-pub fn answers(
-    heap: Global,
-    heads: &mut [Head],
-    cells: &mut [[u8; 64]],
-    rows: &mut [u16],
-    spare: &mut [u16],
-    input: &[u8],
-) -> Result<Vec<u8>, ServeError>
-    ensures { MatchResult result (λ v. (v.items ≡ flat_map framed (answers_to Unset (stream_words input.now))) × (enough 32 256 heads.old cells.old rows.old spare.old ≡ true)) (λ e. Fails e (enough 32 256 heads.old cells.old rows.old spare.old)) }
+pub fn answers(heap: Global, loan: Loan<'_>, input: &[u8]) -> Result<Vec<u8>, ServeError>
+    ensures { MatchResult result (λ v. (v.items ≡ flat_map framed (answers_to Unset (stream_words input.now))) × (enough 32 256 (lent_by loan.entry) ≡ true)) (λ e. Fails e (enough 32 256 (lent_by loan.entry))) }
 {
-    let Some(mut ideal) = IdealBox::new(heads, cells, rows, spare) else {
+    let Some(mut ideal) = IdealBox::new(loan) else {
         return Err(ServeError::TooLittleLent);
     };
     match answers_of(&mut ideal, heap, input) {

@@ -271,6 +271,6 @@ decides_malformed s st word h a b = go (kind_of word) refl
     go Unknown e = ap (λ (x : Kind). by_kind st x word) e
 
 -- a box that was made is not set
-pub made_unset : (heads : List Head) (cells : List (List ℕ)) (rows spare : List ℕ) (s : State) → enough 32 256 heads cells rows spare ≡ true → s ≡ unset (fresh 32 256 heads cells rows spare) → Shows s Unset
-made_unset heads cells rows spare s e q =
-    subst (λ (z : State). Shows z Unset) (sym q) (unset_good heads cells rows spare e, refl)
+pub made_unset : (l : Lent) (s : State) → enough 32 256 l ≡ true → s ≡ unset (fresh 32 256 l) → Shows s Unset
+made_unset l s e q =
+    subst (λ (z : State). Shows z Unset) (sym q) (unset_good l e, refl)

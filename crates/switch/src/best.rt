@@ -1,6 +1,6 @@
 // The ideal box as a switch.
 ghost use Rattle.std.specs.Prelude.{◌≡◌, ℕ, ◌<◌, true, false, List, MatchOption, nat_le};
-ghost use Rattle.buffer.specs.Memory.{enough, fresh};
+ghost use Rattle.buffer.specs.Memory.{lent_by, enough, fresh};
 ghost use Rattle.buffer.specs.Lent.{lent_to};
 ghost use Rattle.switch.specs.Respond.Status.{Unset};
 ghost use Rattle.words.specs.Lines.{settings, judge};
@@ -8,7 +8,7 @@ ghost use Rattle.ideal.specs.State.{state, Good};
 ghost use Rattle.switch.specs.Best.{Shows, Settled, Slotted, step_of};
 
 use crate::Switch;
-use buffer::Head;
+use buffer::Loan;
 use ideal::IdealBox;
 use words::{BODY, Fault, Kind, judge_lines, read_settings, write_refusal};
 
@@ -23,18 +23,10 @@ enum Step {
 }
 
 // An ideal box over what the caller lends, whatever that holds; None where it is too little.
-pub fn best_box<'a>(
-    heads: &'a mut [Head],
-    cells: &'a mut [[u8; 64]],
-    rows: &'a mut [u16],
-    spare: &'a mut [u16],
-) -> Option<IdealBox<'a>>
-    ensures { MatchOption result (enough 32 256 heads.old cells.old rows.old spare.old ≡ false) (λ b. (enough 32 256 heads.old cells.old rows.old spare.old ≡ true) × Shows (state b) Unset × ((state b).mem ≡ fresh 32 256 heads.old cells.old rows.old spare.old)) }
+pub fn best_box(loan: Loan<'_>) -> Option<IdealBox<'_>>
+    ensures { MatchOption result (enough 32 256 (lent_by loan.entry) ≡ false) (λ b. (enough 32 256 (lent_by loan.entry) ≡ true) × Shows (state b) Unset × ((state b).mem ≡ fresh 32 256 (lent_by loan.entry))) }
 {
-    match IdealBox::new(heads, cells, rows, spare) {
-        Some(ideal) => Some(ideal),
-        None => None,
-    }
+    IdealBox::new(loan)
 }
 
 // Takes a settings word.

@@ -4,9 +4,9 @@ use Rattle.cioq.specs.State as real
 use Rattle.cioq.proofs.Begun.{made_good}
 use Rattle.crowd.proofs.Crowd.new.Goals as goal
 
-pub returns-in-Some : goal.returns-in-Some
-returns-in-Some c =
-    let f = c.in-Some.ensures in (
+pub returns : goal.returns
+returns c =
+    let f = c.in_ok-real.ensures in (
       f.0,
-      (subst Good (sym f.1) (made_good c.args.heads.now c.args.cells.now c.args.rows.now c.args.spare.now f.0), refl, ap (λ (s : real.State). s.lines) f.1),
+      (subst Good (sym f.1) (made_good _ f.0), refl, ap (λ (s : real.State). s.lines) f.1),
     )
