@@ -34,8 +34,8 @@ use Rattle.cioq.proofs.Bytes.{places_kept, transferred_cells, departed-cells}
 use Rattle.switch.specs.Respond.{SlotIn, body_in, slot_of, with_body}
 use Rattle.switch.specs.Respond as respond
 use Rattle.switch.proofs.History.{body_new}
-use Rattle.fabric.specs.Real.{gone, box_after, Runs}
-use Rattle.fabric.specs.Served.{Served}
+use Rattle.fabric.specs.Real.{Shows, gone, box_after, Runs}
+use Rattle.switch.specs.Taking.{Serves}
 use Rattle.fabric.proofs.History.{found-run, spells_on}
 use Rattle.fabric.proofs.Stages.{Stage, stage_counted, stage_fits, stage_waits, transferred_stage, departed_stage, stage_bytes, brings_fit, bytes_are, departures_written}
 
@@ -218,11 +218,13 @@ module _ (s : State) (past : List SlotIn) (bytes : List ℕ) (h : Runs s s.lines
           (places_kept.arrivals s (slot_lines s.lines bytes) h.good brings p)
 
       -- the slot as a whole
-      pub slot_served : (out one_out two_out written : List ℕ) (at next r : ℕ) (flags : List Bool) → length flags ≡ 32 → ((i : ℕ) → i < 32 → get_or flags i false ≡ (ltb i s.lines && away (slot_lines s.lines bytes) s i)) → Written out one_out at [] [] → two_out ≡ overwrite at (departing_bytes s₂.lines s₂) one_out → next ≡ at + length (departing_bytes s₂.lines s₂) → ((ds : List Departure) → Written out two_out next ds [] → Written out written r ds (take s.lines flags)) → Served s (passed s₄) past (slot_lines s.lines bytes) r out written
+      pub slot_served : (out one_out two_out written : List ℕ) (at next r : ℕ) (flags : List Bool) → length flags ≡ 32 → ((i : ℕ) → i < 32 → get_or flags i false ≡ (ltb i s.lines && away (slot_lines s.lines bytes) s i)) → Written out one_out at [] [] → two_out ≡ overwrite at (departing_bytes s₂.lines s₂) one_out → next ≡ at + length (departing_bytes s₂.lines s₂) → ((ds : List Departure) → Written out two_out next ds [] → Written out written r ds (take s.lines flags)) → Serves (Shows (passed s₄)) 16448 s.lines past (slot_lines s.lines bytes) (lent_to s.mem) (lent_to s₄.mem) r out written
       slot_served out one_out two_out written at next r flags l w b e f k =
           record {
-            runs = runs_on;
+            shown = runs_on;
             answer = subst (λ (fs : List Bool). Written out written r (map (λ o. with_body new (departure 256 s.lines o (respond.arrived past) (slot_of (slot_lines s.lines bytes)).arrivals)) (range_with_len 0 s.lines)) fs) (flags_are flags l w) (k _ (departures out one_out two_out at next b e f));
             left = left;
-            places = places;
+            places = λ p. ⊎_elim (λ q. inl q)
+                (λ q. inr (record { input = q.input; output = q.output; there = q.there; arrives = q.arrives; taken = sym (away_is q.input q.there) ∙ q.taken; free = q.free; bytes = q.bytes }))
+                (places p);
           }

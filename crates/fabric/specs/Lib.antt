@@ -1,4 +1,2 @@
 pub mod Real
-pub mod Served
-pub mod Turns
 pub mod Laws

@@ -1,39 +1,26 @@
 // The real box with the finding's choices, as a switch.
 #![tactic(auto)]
 
-ghost use Rattle.std.specs.Prelude.{◌≡◌, ℕ, ◌+◌, ◌^◌, ◌<◌, ◌≤◌, true, false, List, [], length, Ok, MatchOption, nat_le};
+ghost use Rattle.std.specs.Prelude.{◌≡◌, ℕ, ◌+◌, ◌^◌, ◌<◌, ◌≤◌, true, false, List, [], length, Ok, MatchOption};
 ghost use Rattle.crossbox.specs.Box.{Box};
 ghost use Rattle.matching.specs.Making.{TableOf};
 ghost use Rattle.matching.specs.Table.{Finds};
 ghost use Rattle.cioq.specs.Arrivals.{slot_lines};
-ghost use Rattle.cioq.specs.State.{state, Good, Aimed, unset};
+ghost use Rattle.cioq.specs.State.{state, Good, Aimed};
 ghost use Rattle.buffer.specs.Memory.{lent_by, enough, fresh};
-ghost use Rattle.words.specs.Lines.{settings, judge, verdict};
+ghost use Rattle.words.specs.Lines.{judge, verdict};
 ghost use Rattle.switch.specs.Respond.{SlotIn};
 ghost use Rattle.switch.specs.Respond.Status.{Unset};
 ghost use Rattle.buffer.specs.Lent.{lent_to};
 ghost use Rattle.fabric.specs.Real.{Tied, Runs, Shows, up_to};
 ghost use Rattle.fabric.specs.Laws.{TwoTransfers, FoundIsTaken, ModelIsRun};
-ghost use Rattle.fabric.specs.Turns.{Settled, Slotted, step_of};
-ghost use Rattle.fabric.specs.Served.{Served};
+ghost use Rattle.switch.specs.Taking.{Serves};
 
 use buffer::Loan;
 use cioq::RealBox;
 use matching::{Firsts, Found, find};
 use switch::Switch;
-use words::{
-    ANSWER, BODY, Fault, Kind, judge_lines, read_settings, write_byte, write_flags, write_refusal,
-};
-
-// How many slots a box takes after its settings.
-const SLOT_LIMIT: u64 = 4294967296;
-
-// What a box is ready for.
-#[derive(Clone, Copy)]
-enum Step {
-    Unset,
-    Slot,
-}
+use words::{ANSWER, write_byte, write_flags};
 
 // The real box, and the table in which a choice is sought.
 #[derive(Drop)]
@@ -87,11 +74,11 @@ impl<'a> Fabric<'a> {
     }
 
     // Serves a slot whose lines have been judged good: writes the answer, and gives its length.
-    fn slot(&mut self, lines: &[u8], out: &mut [u8; 2241]) -> usize
+    fn serve_slot(&mut self, lines: &[u8], out: &mut [u8; 2241]) -> usize
         requires runs { (past : List SlotIn) × Runs (state self.old.real) (state self.old.real).lines past }
         requires early { (state self.old.real).slots < 2 ^ 32 }
         requires read { Ok tt ≡ verdict (judge (state self.old.real).lines 64 false lines.now) }
-        ensures { (past : List SlotIn) → Runs (state self.old.real) (state self.old.real).lines past → Served (state self.old.real) (state self.new.real) past (slot_lines (state self.old.real).lines lines.now) result out.old out.new }
+        ensures { (past : List SlotIn) → Runs (state self.old.real) (state self.old.real).lines past → Serves (Shows (state self.new.real)) 16448 (state self.old.real).lines past (slot_lines (state self.old.real).lines lines.now) (lent_to (state self.old.real).mem) (lent_to (state self.new.real).mem) result out.old out.new }
     {
         let turned_away = self.real.arrive(lines);
         let first = choose(&self.real, &mut self.firsts);
@@ -105,43 +92,6 @@ impl<'a> Fabric<'a> {
     }
 }
 
-// Takes a settings word.
-fn take_settings(fabric: &mut Fabric<'_>, word: &[u8], out: &mut [u8; 2241]) -> usize
-    requires { Good (state fabric.old.real) }
-    ensures { Settled (settings word.now) (state fabric.old.real) (state fabric.new.real) result out.old out.new }
-{
-    match read_settings(word) {
-        Ok(lines) => {
-            fabric.real.begin(lines);
-            0
-        }
-        Err(fault) => write_refusal(out, fault),
-    }
-}
-
-// Takes the lines of a slot word.
-fn take_slot(fabric: &mut Fabric<'_>, lines: &[u8], out: &mut [u8; 2241]) -> usize
-    requires { (past : List SlotIn) × Runs (state fabric.old.real) (state fabric.old.real).lines past }
-    ensures { Slotted (judge (state fabric.old.real).lines 64 (nat_le 4294967296 (state fabric.old.real).slots) lines.now) lines.now (state fabric.old.real) (state fabric.new.real) result out.old out.new }
-{
-    let late = fabric.real.slots() >= SLOT_LIMIT;
-    match judge_lines(fabric.real.lines(), BODY, late, lines) {
-        Ok(()) => fabric.slot(lines, out),
-        Err(fault) => write_refusal(out, fault),
-    }
-}
-
-// What the box is ready for.
-fn ready_for(fabric: &Fabric<'_>) -> Step
-    ensures { result ≡ step_of (state fabric.now.real).lines }
-{
-    if fabric.real.lines() == 0 {
-        Step::Unset
-    } else {
-        Step::Slot
-    }
-}
-
 impl Switch for Fabric<'_> {
     ghost shows = { λ b st. Shows (state b.real) st };
 
@@ -149,14 +99,20 @@ impl Switch for Fabric<'_> {
 
     ghost width = { λ b. 16448 };
 
-    fn answer(&mut self, word: &[u8], out: &mut [u8; 2241]) -> usize {
-        match (ready_for(self), Kind::of(word)) {
-            (_, Kind::Settings) => take_settings(self, word, out),
-            (Step::Slot, Kind::Slot) => take_slot(self, &word[1..], out),
-            (Step::Unset, Kind::Slot) => write_refusal(out, Fault::Malformed),
-            (_, Kind::Choice) => write_refusal(out, Fault::Malformed),
-            (_, Kind::Unknown) => write_refusal(out, Fault::Malformed),
-        }
+    fn lines(&self) -> u8 {
+        self.real.lines()
+    }
+
+    fn slots(&self) -> u64 {
+        self.real.slots()
+    }
+
+    fn begin(&mut self, lines: u8) {
+        self.real.begin(lines);
+    }
+
+    fn slot(&mut self, lines: &[u8], out: &mut [u8; 2241]) -> usize {
+        self.serve_slot(lines, out)
     }
 }
 

@@ -1,3 +1,4 @@
 pub mod History
+pub mod Taken
 pub mod Turns
 pub mod Turning

@@ -1,3 +1,4 @@
 pub mod Respond
 pub mod Promise
 pub mod Best
+pub mod Taking

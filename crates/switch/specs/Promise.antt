@@ -1,5 +1,5 @@
 -- The promise of a box, on the call that takes a word and gives the answer. Assumes nothing.
-use Rattle.std.specs.Prelude.{◌≡◌, ℕ, ◌*◌, ◌<◌, false, ◌⊎◌, List, [], length, get_or, take, drop, slice_index_or}
+use Rattle.std.specs.Prelude.{◌≡◌, ℕ, ◌*◌, ◌<◌, false, cond, ◌==◌, ◌⊎◌, List, [], length, get_or, take, drop, slice_index_or}
 use Rattle.crossbox.specs.declared.Arrival.TheVariants.{For}
 use Rattle.crossbox.specs.Ideal.{rejected}
 use Rattle.buffer.specs.Head.{vacant}
@@ -7,6 +7,8 @@ use Rattle.buffer.specs.Memory.{Lent}
 use Rattle.buffer.specs.Lent.{beyond}
 use Rattle.words.specs.Lines.{Line}
 use Rattle.words.specs.declared.fault.Fault.{Fault}
+use Rattle.switch.specs.declared.Step.{Step}
+use Rattle.switch.specs.declared.Step.TheVariants as step
 use Rattle.switch.specs.Respond.Status.{Unset, Running}
 use Rattle.switch.specs.Respond.Verdict.{Refuse, Take}
 use Rattle.switch.specs.Respond.{Status, SlotIn, arrived, slot_of, decide, respond}
@@ -21,6 +23,10 @@ pub record Answers (st : Status) (word : List ℕ) (r : ℕ) (before after : Lis
 abbrev pub lines_of : Status → ℕ
 lines_of Unset = 0
 lines_of (Running n past) = n
+
+-- a box with no lines is not set
+abbrev pub step_of : ℕ → Step
+step_of lines = cond (lines == 0) step.Unset step.Slot
 
 -- a place has the bytes of a cell of this word that was not turned away, and was free before
 pub record PutThere (st : Status) (word : List ℕ) (before after : Lent) (p : ℕ) : Type 0 where

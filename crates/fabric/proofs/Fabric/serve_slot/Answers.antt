@@ -6,10 +6,12 @@ use Rattle.cioq.specs.Departures.{depart_all}
 use Rattle.cioq.specs.Arrivals.{slot_lines}
 use Rattle.cioq.proofs.Arrivals.{all_lines}
 use Rattle.cioq.proofs.Transfers.{transferred_lines}
-use Rattle.fabric.specs.Served.{Served}
+use Rattle.buffer.specs.Lent.{lent_to}
+use Rattle.switch.specs.Taking.{Serves}
+use Rattle.fabric.specs.Real.{Shows}
 use Rattle.fabric.proofs.Stages.{stage_tied, stage_aimed, stage_counted, stage_fits, stage_waits}
 use Rattle.fabric.proofs.Slot.{one, three, first_stage, second_stage, third_stage, fourth_stage, slot_served}
-use Rattle.fabric.proofs.Fabric.slot.Goals as goal
+use Rattle.fabric.proofs.Fabric.serve_slot.Goals as goal
 
 pub choose-first-requires : goal.choose-first-requires
 choose-first-requires c =
@@ -59,7 +61,7 @@ returns c =
     λ past h.
     let g = fourth_stage (state c.args.self.now.real) past c.args.lines.now h c.requires.read (state c.arrive-turned_away.new.self) (state c.transfer.new.self) (state c.depart-left.new.self) (state c.transfer-2.new.self) c.choose-first.result c.choose-second.result c.arrive-turned_away.ensures.after c.transfer.ensures (c.choose-first.ensures (one (state c.args.self.now.real) past c.args.lines.now h c.requires.read) (stage_tied _ _ _ _ (state c.arrive-turned_away.new.self) (one (state c.args.self.now.real) past c.args.lines.now h c.requires.read) (first_stage (state c.args.self.now.real) past c.args.lines.now h c.requires.read (state c.arrive-turned_away.new.self) c.arrive-turned_away.ensures.after))) c.depart-left.ensures.after c.transfer-2.ensures (c.choose-second.ensures (three (state c.args.self.now.real) past c.args.lines.now h c.requires.read) (stage_tied _ _ _ _ (state c.depart-left.new.self) (three (state c.args.self.now.real) past c.args.lines.now h c.requires.read) (third_stage (state c.args.self.now.real) past c.args.lines.now h c.requires.read (state c.arrive-turned_away.new.self) (state c.transfer.new.self) (state c.depart-left.new.self) (state c.depart-left.new.self) c.choose-first.result c.choose-first.result c.arrive-turned_away.ensures.after c.transfer.ensures (c.choose-first.ensures (one (state c.args.self.now.real) past c.args.lines.now h c.requires.read) (stage_tied _ _ _ _ (state c.arrive-turned_away.new.self) (one (state c.args.self.now.real) past c.args.lines.now h c.requires.read) (first_stage (state c.args.self.now.real) past c.args.lines.now h c.requires.read (state c.arrive-turned_away.new.self) c.arrive-turned_away.ensures.after))) c.depart-left.ensures.after))) in
     let n : c.lines.result ≡ c.args.self.now.real.lines = c.lines.ensures ∙ (ap (λ (z : State). z.lines) c.pass.ensures ∙ g.lines) in
-    subst (λ (z : State). Served (state c.args.self.now.real) z past (slot_lines c.args.self.now.real.lines c.args.lines.now) c.write_flags.result c.args.out.now c.write_flags.new.out) (sym c.pass.ensures)
+    subst (λ (z : State). Serves (Shows z) 16448 c.args.self.now.real.lines past (slot_lines c.args.self.now.real.lines c.args.lines.now) (lent_to (state c.args.self.now.real).mem) (lent_to z.mem) c.write_flags.result c.args.out.now c.write_flags.new.out) (sym c.pass.ensures)
     (slot_served (state c.args.self.now.real) past c.args.lines.now h c.requires.read (state c.arrive-turned_away.new.self) (state c.transfer.new.self) (state c.depart-left.new.self) (state c.transfer-2.new.self) c.choose-first.result c.choose-second.result c.arrive-turned_away.ensures.after c.transfer.ensures (c.choose-first.ensures (one (state c.args.self.now.real) past c.args.lines.now h c.requires.read) (stage_tied _ _ _ _ (state c.arrive-turned_away.new.self) (one (state c.args.self.now.real) past c.args.lines.now h c.requires.read) (first_stage (state c.args.self.now.real) past c.args.lines.now h c.requires.read (state c.arrive-turned_away.new.self) c.arrive-turned_away.ensures.after))) c.depart-left.ensures.after c.transfer-2.ensures (c.choose-second.ensures (three (state c.args.self.now.real) past c.args.lines.now h c.requires.read) (stage_tied _ _ _ _ (state c.depart-left.new.self) (three (state c.args.self.now.real) past c.args.lines.now h c.requires.read) (third_stage (state c.args.self.now.real) past c.args.lines.now h c.requires.read (state c.arrive-turned_away.new.self) (state c.transfer.new.self) (state c.depart-left.new.self) (state c.depart-left.new.self) c.choose-first.result c.choose-first.result c.arrive-turned_away.ensures.after c.transfer.ensures (c.choose-first.ensures (one (state c.args.self.now.real) past c.args.lines.now h c.requires.read) (stage_tied _ _ _ _ (state c.arrive-turned_away.new.self) (one (state c.args.self.now.real) past c.args.lines.now h c.requires.read) (first_stage (state c.args.self.now.real) past c.args.lines.now h c.requires.read (state c.arrive-turned_away.new.self) c.arrive-turned_away.ensures.after))) c.depart-left.ensures.after))) c.args.out.now c.write_byte-begun.new.out c.depart-left.new.out c.write_flags.new.out c.write_byte-begun.result c.depart-left.result c.write_flags.result c.arrive-turned_away.result (search rules) c.arrive-turned_away.ensures.away
     (answer_begins c.args.out.now c.write_byte-begun.new.out c.write_byte-begun.result c.write_byte-begun.ensures.bytes c.write_byte-begun.ensures.next)
     c.depart-left.ensures.bytes c.depart-left.ensures.next

@@ -1,0 +1,8 @@
+use Rattle.ideal.specs.State.{state}
+use Rattle.switch.proofs.Turns.{serves}
+use Rattle.switch.proofs.best.IdealBoxSwitch.slot.Goals as goal
+
+pub returns : goal.returns
+returns c n past ls h e =
+    serves (state c.args.self.now) (state c.slot.new.self) n past ls c.args.lines.now c.slot.result c.args.out.now c.slot.new.out h e
+    c.slot.ensures.after c.slot.ensures.answer
