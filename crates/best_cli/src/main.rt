@@ -1,25 +1,16 @@
 // The ideal box as a program: words on standard input, their answers on standard output.
 #![tactic(auto)]
 
-use buffer::{Head, PLACES};
 use cli::CliError;
-use ideal::ROOM;
+use ideal::ENTRIES;
+use lend::Reserve;
 use std::process::ExitCode;
 use switch::best_box;
 
-// How many lines there are at most.
-const LINES: usize = 32;
-
 // Lends memory to a box, and runs the program over it.
 fn best(rt: &HostRuntime) -> Result<(), CliError> {
-    let heap = rt.alloc();
-    let mut heads = vec![in heap; Head::VACANT; PLACES]?;
-    let mut cells = vec![in heap; [0u8; 64]; PLACES]?;
-    let mut rows = vec![in heap; 0u16; LINES * ROOM]?;
-    let mut spare = vec![in heap; 0u16; PLACES]?;
-    let Some(mut ideal) = best_box(&mut heads, &mut cells, &mut rows, &mut spare) else {
-        return Err(CliError::TooLittleLent);
-    };
+    let mut reserve = Reserve::new(rt.alloc(), ENTRIES)?;
+    let mut ideal = best_box(reserve.loan()).ok_or(CliError::TooLittleLent)?;
     cli::run(rt, "best", &mut ideal)
 }
 

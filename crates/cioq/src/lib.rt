@@ -36,6 +36,9 @@ pub const ROWS: usize = 64;
 // The room of a row: for all places.
 pub const ROW_ROOM: usize = 8224;
 
+// The entries of rows that the box is lent.
+pub const ENTRIES: usize = ROWS * ROW_ROOM;
+
 #[derive(Drop)]
 pub struct RealBox<'a> {
     memory: Memory<'a, ROWS, ROW_ROOM>,

@@ -16,6 +16,9 @@ use words::{ANSWER, BODY, NONE, body_of, read_entry, write_byte, write_departure
 // How many cells a queue holds.
 pub const ROOM: usize = 256;
 
+// The entries of rows that the box is lent: 32 queues.
+pub const ENTRIES: usize = 32 * ROOM;
+
 // Places for each line: as many as its queue holds, and one more.
 const PLACES_A_LINE: u16 = 257;
 
