@@ -1,5 +1,5 @@
 // Readers of words: each gives what the bytes say, or that they say nothing.
-ghost use Rattle.std.specs.Prelude.{◌≡◌, ◌&&◌, length};
+ghost use Rattle.std.specs.Prelude.{◌≡◌, length};
 ghost use Rattle.words.specs.Kind.{kind_of};
 ghost use Rattle.words.specs.Lines.{settings, read_entry, entry_of, fits, judge, verdict};
 
@@ -9,7 +9,7 @@ use crossbox::Arrival;
 use std::simd::prelude::*;
 
 // The kind of a word, by its first byte.
-#[derive(Clone, Copy)]
+#[derive(Clone, Copy, PartialEq, Eq)]
 pub enum Kind {
     Settings,
     Slot,
@@ -84,13 +84,13 @@ pub fn body_of(bytes: &[u8]) -> [u8; BODY]
     u8x64::from_slice(bytes).to_array()
 }
 
-// Whether all lines so far and this one are for outputs that are there.
-fn still_fit(all: bool, n: u8, arrival: Arrival) -> bool
-    ensures { result ≡ (all && fits n arrival) }
+// Whether what arrives is for an output that is there.
+fn fits(n: u8, arrival: Arrival) -> bool
+    ensures { result ≡ fits n arrival }
 {
     match arrival {
-        Arrival::Nothing => all,
-        Arrival::For(output) => all && output < n,
+        Arrival::Nothing => true,
+        Arrival::For(output) => output < n,
     }
 }
 
@@ -100,14 +100,12 @@ pub fn judge_lines(n: u8, size: usize, late: bool, bytes: &[u8]) -> Result<(), F
 {
     let mut rest = bytes;
     let mut all_fit = true;
-    let mut left = n;
-    while left > 0 {
+    for _ in 0..n {
         let Some(entry) = read_entry(rest, size) else {
             return Err(Fault::Malformed);
         };
-        all_fit = still_fit(all_fit, n, entry.arrival);
+        all_fit &= fits(n, entry.arrival);
         rest = entry.rest;
-        left -= 1;
     }
     if rest.len() > 0 {
         return Err(Fault::Malformed);
