@@ -9,9 +9,9 @@ use Rattle.crossbox.specs.declared.Cell.{Cell}
 use Rattle.buffer.specs.Head.{cell_of}
 use Rattle.buffer.specs.Memory.{Mem, row_length, head_at, place_at, remove}
 use Rattle.words.specs.Lines.{Line, no_line}
-use Rattle.words.specs.Answer.{Departure, Written, leaving}
-use Rattle.words.specs.Writing.{overwrite}
-use Rattle.words.proofs.Answered.{answer-departure}
+use Rattle.words.specs.Answer.{Departure, leaving, leaving_all}
+use Rattle.words.specs.Writing.{Draft, appended}
+use Rattle.words.proofs.Answered.{departure_more, no_departures}
 use Rattle.ideal.specs.State.{State, Good}
 use Rattle.ideal.specs.Steps.{Brings, turned_away, admit_in, admit_one, admit_all, admitted, away, departure_of, depart_one, departing, depart_all, departed, departures, served}
 use Rattle.ideal.proofs.Good.{with, Bring, bring_at, admit_all_good, depart_all_good}
@@ -76,9 +76,9 @@ pub departed-none : (s : State) → s ≡ departed 0 s
 unfolding depart_all
 departed-none s = refl
 
-pub departures-none : (m : Mem) → [] ≡ departures 0 m
+pub departures-none : (m : Mem) (w : Draft) → w ≡ appended (leaving_all (departures 0 m)) w
 unfolding departures
-departures-none m = refl
+departures-none m w = no_departures w
 
 depart-next : (k : ℕ) (m : Mem) → depart_all (k + 1) m ≡ depart_one k (depart_all k m)
 unfolding depart_all
@@ -93,11 +93,12 @@ module _ (s : State) (k : ℕ) (now : State) (inv : now ≡ departed k s) where
   departed-more after f =
       f ∙ (ap (λ (z : State). departing k z) inv ∙ ap (λ (m : Mem). with s m) (sym (depart-next k s.mem)))
 
-  pub departures-more : (start out last : List ℕ) (at next : ℕ) → Written start out at (departures k s.mem) [] → last ≡ overwrite at (leaving (departure_of k now.mem)) out → next ≡ at + length (leaving (departure_of k now.mem)) → Written start last next (departures (k + 1) s.mem) []
-  departures-more start out last at next w e f =
+  pub departures-more : (w before last : Draft) → before ≡ appended (leaving_all (departures k s.mem)) w →
+      last ≡ appended (leaving (departure_of k now.mem)) before → last ≡ appended (leaving_all (departures (k + 1) s.mem)) w
+  departures-more w before last e f =
       let d = ap (λ (z : State). departure_of k z.mem) inv in
-      subst (λ (ds : List Departure). Written start last next ds []) (sym (departures-next k s.mem))
-      (answer-departure start out last at next (departures k s.mem) (departure_of k (depart_all k s.mem)) w (e ∙ ap (λ (x : Departure). overwrite at (leaving x) out) d) (f ∙ ap (λ (x : Departure). at + length (leaving x)) d))
+      departure_more w before last (departures k s.mem) (departure_of k (depart_all k s.mem)) e (f ∙ ap (λ (x : Departure). appended (leaving x) before) d)
+      ∙ ap (λ (ds : List Departure). appended (leaving_all ds) w) (sym (departures-next k s.mem))
 
   pub good_departed : Good s → k ≤ s.lines → Good now
   good_departed g h = subst (λ (z : State). Good z) (sym inv) (depart_all_good s k g h)

@@ -38,7 +38,7 @@ pub fn read_settings(word: &[u8]) -> Result<u8, Fault>
     let [_, lines] = word else {
         return Err(Fault::Malformed);
     };
-    if *lines == 0 || *lines > MOST_LINES {
+    if *lines == 0 || *lines as usize > MOST_LINES {
         return Err(Fault::LineCount);
     }
     Ok(*lines)

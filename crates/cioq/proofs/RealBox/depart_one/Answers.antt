@@ -1,6 +1,7 @@
-use Rattle.std.proofs.Common.{◌≡◌, ◌+◌, ◌-◌, length, get_or, set, sym, ap, ◌∙◌, arith}
+use Rattle.std.proofs.Common.{◌≡◌, ◌+◌, ◌-◌, get_or, set, sym, ap, ◌∙◌, arith}
 use Rattle.words.specs.Answer.{Departure, leaving}
-use Rattle.words.specs.Writing.{overwrite}
+use Rattle.words.specs.Writing.{Draft, appended}
+use Rattle.words.proofs.Overwrites.{departure-length}
 use Rattle.buffer.specs.Memory.{Mem, view, row_length}
 use Rattle.cioq.specs.State.{state}
 use Rattle.cioq.proofs.Departures.{departs-first, departure-first}
@@ -14,7 +15,6 @@ returns c =
     let dep = departure-first s c.args.output full c.cell-cell.result c.body.result.now c.cell-cell.ensures c.body.ensures in
     record {
       after = ap (λ (m : Mem). record { mem = m; counts = set c.args.self.now.held c.args.output (get_or c.args.self.now.held c.args.output 0 - 1); lines = c.args.self.now.lines; slots = c.args.self.now.now }) c.remove.ensures ∙ sym (departs-first s c.args.output full);
-      bytes = c.write_cell-next.ensures.bytes ∙ ap (λ (d : Departure). overwrite c.args.at (leaving d) c.args.out.now) (sym dep);
-      next = c.write_cell-next.ensures.next ∙ ap (λ (d : Departure). c.args.at + length (leaving d)) (sym dep);
-      short = c.write_cell-next.ensures.short;
+      answer = c.push_departure.ensures.bytes ∙ ap (λ (d : Departure). appended (leaving d) c.args.answer.now) (sym dep);
+      short = omega (arith, ap (λ (w : Draft). w.len) c.push_departure.ensures.bytes, departure-length c.cell-cell.result c.body.result.now c.push_departure.ensures.carried);
     }
