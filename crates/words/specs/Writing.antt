@@ -3,7 +3,7 @@ use Rattle.std.specs.Prelude.{ℕ, ◌+◌, ◌/◌, ◌%◌, List, [], ◌∷�
 use Rattle.crossbox.specs.declared.Cell.{Cell}
 use Rattle.words.specs.declared.fault.Fault.{Fault}
 use Rattle.words.specs.Fault.{number}
-use Rattle.words.specs.Numbers.{no_cell, refusal_kind}
+use Rattle.words.specs.Numbers.{longest_answer, no_cell, refusal_kind}
 
 -- a buffer with these bytes from a place on, and all else as it was
 unfoldable pub overwrite : ℕ → List ℕ → List ℕ → List ℕ
@@ -16,7 +16,7 @@ pub record Draft : Type 0 where
 
 -- nothing is written yet
 abbrev pub blank : Draft
-blank = record { bytes = replicate 2241 0; len = 0 }
+blank = record { bytes = replicate longest_answer 0; len = 0 }
 
 -- begun anew, over the same bytes
 abbrev pub cleared : Draft → Draft

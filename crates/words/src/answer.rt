@@ -17,13 +17,14 @@ pub struct Answer {
 // Contracts see the whole buffer: what stands behind the answer is never written.
 impl Model for Answer {
     ghost use Rattle.std.specs.Prelude.{◌≤◌};
+    ghost use Rattle.words.specs.Numbers.{longest_answer};
     ghost use Rattle.words.specs.Writing.{Draft};
 
     ghost Value = { Draft };
 
     ghost view = { λ a. record { bytes = a.bytes; len = a.len } };
 
-    ghost invariant = { λ a. a.len ≤ 2241 };
+    ghost invariant = { λ a. a.len ≤ longest_answer };
 }
 
 impl Answer {

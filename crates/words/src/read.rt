@@ -6,7 +6,6 @@ ghost use Rattle.words.specs.Lines.{settings, read_entry, entry_of, fits, judge,
 use crate::fault::Fault;
 use crate::{BODY, CHOICE, MOST_LINES, NONE, SETTINGS, SLOT};
 use crossbox::Arrival;
-use std::simd::prelude::*;
 
 // The kind of a word, by its first byte.
 #[derive(Clone, Copy, PartialEq, Eq)]
@@ -18,7 +17,7 @@ pub enum Kind {
 }
 
 impl Kind {
-    // The kind of a word; unknown if it is empty.
+    // The kind of a word; unknown if it is empty. No `From`: it gives up all but the first byte.
     pub fn of(word: &[u8]) -> Kind
         ensures { result ≡ kind_of word.now }
     {
@@ -78,10 +77,12 @@ pub fn read_entry(bytes: &[u8], size: usize) -> Option<Entry<'_>>
 
 // What a cell carries, as an array.
 pub fn body_of(bytes: &[u8]) -> [u8; BODY]
-    requires { length bytes.now ≡ 64 }
+    requires { length bytes.now ≡ BODY }
     ensures { result ≡ bytes.now }
 {
-    u8x64::from_slice(bytes).to_array()
+    let mut body = [0; BODY];
+    body.copy_from_slice(bytes);
+    body
 }
 
 // Whether what arrives is for an output that is there.
