@@ -56,21 +56,6 @@ flags_more f flags k r l h e inv = (
       ],
 )
 
-module _ (s : State) (g : Good s) (o : ℕ) (h : o < s.lines) (some : 0 < row_length s.mem o) where
-  busy : eqb (row_length s.mem o) 0 ≡ false
-  busy = ne_eqb (row_length s.mem o) 0 (λ e. omega arith)
-
-  -- what leaves, as the code reads it
-  pub departs-first : (c : Cell) (body : List ℕ) → c ≡ cell_of (head_at s.mem (place_at o 0 s.mem)) → body ≡ get_or s.mem.cells (place_at o 0 s.mem) [] → departure_of o s.mem ≡ Some (c, body)
-  departs-first c body e f =
-      ap (λ (w : Bool). cond w None (Some (cell_of (head_at s.mem (place_at o 0 s.mem)), get_or s.mem.cells (place_at o 0 s.mem) []))) busy
-      ∙ (ap (λ (z : Cell). Some (z, get_or s.mem.cells (place_at o 0 s.mem) [])) (sym e)
-      ∙ ap (λ (z : List ℕ). Some (c, z)) (sym f))
-
-  pub departed-first : (m : Mem) → m ≡ remove o 0 s.mem → with s m ≡ departing o s
-  departed-first m e =
-      ap (λ (z : Mem). with s z) e ∙ ap (λ (w : Bool). with s (cond w s.mem (remove o 0 s.mem))) (sym busy)
-
 -- nothing has left yet
 pub departed-none : (s : State) → s ≡ departed 0 s
 unfolding depart_all
@@ -107,8 +92,3 @@ module _ (s : State) (k : ℕ) (now : State) (inv : now ≡ departed k s) where
 pub flags_all : (f : ℕ → Bool) (flags : List Bool) (n : ℕ) → length flags ≡ 32 → n ≤ 32 → ((i : ℕ) → i < n → get_or flags i false ≡ f i) → take n flags ≡ map f (range_with_len 0 n)
 flags_all f flags n l h e =
     fill_by_all f (take n flags) n false (length-take-le n flags (omega arith)) (λ k j. get_or-take n flags k false j ∙ e k j)
-
--- the steps of a slot, one after the other
-pub slot_after : (s one two : State) (ls : List Line) → one ≡ admitted s.lines ls s → two ≡ departed one.lines one → record { mem = two.mem; lines = two.lines; slots = two.slots + 1 } ≡ served ls s
-slot_after s one two ls e f =
-    ap (λ (z : State). record { mem = z.mem; lines = z.lines; slots = z.slots + 1 }) (f ∙ ap (λ (z : State). departed z.lines z) e)

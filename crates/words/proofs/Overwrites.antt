@@ -6,8 +6,7 @@ use Rattle.std.proofs.lemmas.List.{take-append-drop, take_all, drop_all, append-
 use Rattle.std.proofs.lemmas.List.Edits.{paste-paste, paste_all, sets-eq}
 use Rattle.std.proofs.lemmas.Slice.{put_mid-paste}
 use Rattle.std.proofs.lemmas.Bool.{cases_Bool, ltb-true, ltb-false}
-use Rattle.crossbox.specs.declared.Cell.{Cell}
-use Rattle.words.specs.Writing.{Draft, overwrite, appended, departure_bytes}
+use Rattle.words.specs.Writing.{Draft, overwrite, appended}
 
 pub overwrite-length : (at : ℕ) (bytes out : List ℕ) →
     at + length bytes ≤ length out → length (overwrite at bytes out) ≡ length out
@@ -108,13 +107,9 @@ appended_byte b w h =
     let bytes = overwrite_byte w.len b w.bytes (omega arith) in
     λ i. record { bytes = bytes i; len = w.len + 1 }
 
-pub appended-part : (size : ℕ) (bs part : List ℕ) (w : Draft) → part ≡ bs → length bs ≡ size →
+pub appended_part : (size : ℕ) (bs part : List ℕ) (w : Draft) → part ≡ bs → length bs ≡ size →
     record { bytes = put_mid w.len (w.len + size - w.len) w.bytes part; len = w.len + size } ≡ appended bs w
-appended-part size bs part w e l =
+appended_part size bs part w e l =
     let bytes = overwrite-part w.len size bs part w.bytes e l in
     let n = sym l in
     λ i. record { bytes = bytes i; len = w.len + n i }
-
--- a departure takes 69 bytes
-pub departure-length : (c : Cell) (body : List ℕ) → length body ≡ 64 → length (departure_bytes c body) ≡ 69
-departure-length c body e = omega arith

@@ -55,12 +55,15 @@ impl Answer {
 
     // The answer so far.
     pub fn as_bytes(&self) -> &[u8]
-        ensures { result.now ≡ take self.now.len self.now.bytes }
+        ensures bytes { result.now ≡ take self.now.len self.now.bytes }
+        ensures all { length result.now ≡ self.now.len }
+        ensures within { self.now.len ≤ ANSWER_BYTES }
     {
         &self.bytes[..self.len]
     }
 
     // Writes one byte.
+    #[tactic(auto, using(crate::proofs::Overwrites::appended_byte))]
     pub fn push(&mut self, b: u8)
         requires { self.old.len < ANSWER_BYTES }
         ensures { self.new ≡ appended (b ∷ []) self.old }
@@ -70,6 +73,7 @@ impl Answer {
     }
 
     // Writes a number of 32 bits, high byte first.
+    #[tactic(auto, using(crate::proofs::Overwrites::appended_part))]
     fn push_number(&mut self, x: u32)
         requires { self.old.len + 4 ≤ ANSWER_BYTES }
         ensures { self.new ≡ appended (big_endian4 x) self.old }
@@ -79,6 +83,7 @@ impl Answer {
     }
 
     // Writes what a cell carries.
+    #[tactic(auto, using(crate::proofs::Overwrites::appended_part))]
     fn push_body(&mut self, body: &[u8; BODY])
         requires { self.old.len + BODY ≤ ANSWER_BYTES }
         ensures bytes { self.new ≡ appended body.now self.old }
@@ -89,6 +94,7 @@ impl Answer {
     }
 
     // Writes a cell that leaves: its input, the slot in which it arrived, and what it carries.
+    #[tactic(auto, using(crate::proofs::Overwrites::appended_then))]
     pub fn push_departure(&mut self, cell: Cell, body: &[u8; BODY])
         requires { self.old.len + DEPARTURE_BYTES ≤ ANSWER_BYTES }
         ensures bytes { self.new ≡ appended (departure_bytes cell body.now) self.old }
@@ -100,6 +106,7 @@ impl Answer {
     }
 
     // Writes for each input whether its cell was turned away.
+    #[tactic(auto, using(crate::proofs::Answered::no_flags, crate::proofs::Answered::flag_more))]
     pub fn push_flags(&mut self, turned_away: &[bool])
         requires { self.old.len + length turned_away.now ≤ ANSWER_BYTES }
         ensures { self.new ≡ appended (flag_bytes turned_away.now) self.old }

@@ -52,6 +52,7 @@ pub struct Entry<'a> {
 }
 
 // Reads one input's part, with a body of `size` bytes where a cell arrives; `None` where the bytes end before.
+#[tactic(auto, unfolding(crate::specs::Lines::read_entry))]
 pub fn read_entry(bytes: &[u8], size: usize) -> Option<Entry<'_>>
     ensures { entry_of result ≡ read_entry size bytes.now }
 {
@@ -75,7 +76,7 @@ pub fn read_entry(bytes: &[u8], size: usize) -> Option<Entry<'_>>
     })
 }
 
-// What a cell carries, as an array.
+// What a cell carries, as an array. No `TryFrom`: it cannot fail, as the caller has seen how many bytes there are.
 pub fn body_of(bytes: &[u8]) -> [u8; BODY]
     requires { length bytes.now ≡ BODY }
     ensures { result ≡ bytes.now }

@@ -1,5 +1,5 @@
-use Rattle.std.proofs.Common.{ap, arith}
-use Rattle.ideal.specs.State.{State, state}
+use Rattle.std.proofs.Common.{arith}
+use Rattle.ideal.specs.State.{state}
 use Rattle.ideal.proofs.Loops.{departed-none, departures-none, departed-more, departures-more, good_departed}
 use Rattle.ideal.proofs.IdealBox.depart_all.Goals as goal
 
@@ -8,15 +8,9 @@ loop-output-init c =
     let s = state c.args.self.now in
     (departed-none s, departures-none s.mem c.args.answer.now, omega arith)
 
-pub depart-requires : goal.depart-requires
-depart-requires c =
-    let i = c.loop-output.invariant in
-    let e = ap (λ (s : State). s.lines) i.0 in
-    record {
-      good = good_departed (state c.args.self.now) c.loop-output.output (state c.loop-output.self) i.0 c.requires.good (omega arith);
-      there = omega arith;
-      room = omega (arith, c.requires.room, i.2, c.loop-output-test.true);
-    }
+pub depart-requires-clause-good : goal.depart-requires-clause-good
+depart-requires-clause-good c =
+    good_departed (state c.args.self.now) c.loop-output.output (state c.loop-output.self) c.loop-output.invariant.0 c.requires.good (omega arith)
 
 pub loop-output-preserved : goal.loop-output-preserved
 loop-output-preserved c =
