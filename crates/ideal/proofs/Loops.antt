@@ -1,19 +1,17 @@
 -- One turn of each loop over a slot's inputs and outputs, in the shapes in which the code has it.
-use Rattle.std.proofs.Common.{◌≡◌, ℕ, ◌+◌, ◌<◌, ◌≤◌, Bool, false, cond, eqb, List, [], ◌∷◌, ◌++◌, map, length, get_or, take, set, Some, None, sym, refl, ap, ◌∙◌, subst, inl, inr, add-one, arith}
+use Rattle.std.proofs.Common.{◌≡◌, ℕ, ◌+◌, ◌<◌, ◌≤◌, Bool, false, List, [], ◌∷◌, ◌++◌, map, length, get_or, take, set, sym, refl, ap, ◌∙◌, subst, inl, inr, add-one, arith}
 use Rattle.std.proofs.lemmas.List.{get_or-set_same, get_or-set_other, length-set, length-take-le, get_or-take}
 use Rattle.std.specs.List.{range_with_len}
 use Rattle.std.proofs.lemmas.List.FromFn.{fill_by_all}
-use Rattle.std.proofs.lemmas.Bool.{cases_eq, ne_eqb}
+use Rattle.std.proofs.lemmas.Bool.{cases_eq}
 use Rattle.crossbox.specs.declared.Arrival.{Arrival}
-use Rattle.crossbox.specs.declared.Cell.{Cell}
-use Rattle.buffer.specs.Head.{cell_of}
-use Rattle.buffer.specs.Memory.{Mem, row_length, head_at, place_at, remove}
+use Rattle.buffer.specs.Memory.{Mem}
 use Rattle.words.specs.Lines.{Line, no_line}
 use Rattle.words.specs.Answer.{Departure, leaving, leaving_all}
 use Rattle.words.specs.Writing.{Draft, appended}
 use Rattle.words.proofs.Answered.{departure_more, no_departures}
 use Rattle.ideal.specs.State.{State, Good}
-use Rattle.ideal.specs.Steps.{Brings, turned_away, admit_in, admit_one, admit_all, admitted, away, departure_of, depart_one, departing, depart_all, departed, departures, served}
+use Rattle.ideal.specs.Steps.{Brings, turned_away, admit_in, admit_one, admit_all, admitted, away, departure_of, depart_one, departing, depart_all, departed, departures}
 use Rattle.ideal.proofs.Good.{with, Bring, bring_at, admit_all_good, depart_all_good}
 
 -- nothing admitted yet

@@ -1,4 +1,4 @@
-use Rattle.std.proofs.Common.{◌≡◌, ◌≤◌, sym, ap, ◌∙◌, subst, arith}
+use Rattle.std.proofs.Common.{◌≤◌, sym, ap, ◌∙◌, subst, arith}
 use Rattle.cioq.specs.State.{State, state, Good, Counted}
 use Rattle.cioq.proofs.Departures.{depart-none, start_written, departed-lines, departed_good, departed_counted, step-departed, step_written}
 use Rattle.cioq.proofs.RealBox.depart.Goals as goal

@@ -1,6 +1,6 @@
 use Rattle.std.proofs.Common.{ℕ, Bool, List, take, ap, ◌∙◌, arith}
 use Rattle.words.specs.Writing.{Draft, appended}
-use Rattle.words.specs.Answer.{Departure, leaving_all, flag_bytes}
+use Rattle.words.specs.Answer.{leaving_all, flag_bytes}
 use Rattle.words.proofs.Answered.{answer_written}
 use Rattle.ideal.specs.State.{State, state}
 use Rattle.ideal.specs.Steps.{lines_of, away, departures, leavers, rejects}
