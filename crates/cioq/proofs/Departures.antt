@@ -1,6 +1,6 @@
 -- Departures in memory: a good box stays good, and the bytes of what leaves stand one after the other.
-use Rattle.std.proofs.Common.{◌≡◌, ℕ, zero, suc, ◌+◌, ◌-◌, ◌<◌, ◌≤◌, Bool, false, cond, eqb, List, [], ◌++◌, length, get_or, take, drop, set, Some, None, sym, refl, ap, ◌∙◌, subst, inl, inr, add-one, arith}
-use Rattle.std.proofs.lemmas.List.{length-set, length-append, take-append-drop, get_or-set_same, get_or-set_other}
+use Rattle.std.proofs.Common.{◌≡◌, ℕ, zero, suc, ◌+◌, ◌-◌, ◌<◌, ◌≤◌, Bool, false, cond, eqb, List, [], ◌++◌, length, get_or, set, Some, None, sym, refl, ap, ◌∙◌, subst, inl, inr, add-one, arith}
+use Rattle.std.proofs.lemmas.List.{length-set, get_or-set_same, get_or-set_other}
 use Rattle.std.proofs.lemmas.List.Sums.{sum_by-set}
 use Rattle.std.proofs.lemmas.Bool.{cases_eq, cond_both}
 use Rattle.std.proofs.lemmas.Bool.Decides.{nat_tests}
@@ -9,8 +9,8 @@ use Rattle.buffer.specs.Head.{cell_of}
 use Rattle.buffer.specs.Memory.{row_length, head_at, place_at}
 use Rattle.buffer.proofs.Remove.{remove_sound}
 use Rattle.words.specs.Answer.{leaving}
-use Rattle.words.specs.Writing.{overwrite}
-use Rattle.words.proofs.Overwrites.{written_then}
+use Rattle.words.specs.Writing.{Draft, appended}
+use Rattle.words.proofs.Overwrites.{appended_then, appended-none}
 use Rattle.cioq.specs.State.{State, Good, Counted, count_of}
 use Rattle.cioq.specs.Departures.{without_first, depart_one, depart_all, departure_of, departing_bytes}
 
@@ -123,31 +123,19 @@ pub bytes_none : (s : State) → departing_bytes 0 s ≡ []
 unfolding departing_bytes
 bytes_none s = refl
 
-overwrite-none : (at : ℕ) (out : List ℕ) → overwrite at [] out ≡ out
-unfolding overwrite
-overwrite-none at out =
-    let z : at + 0 ≡ at = omega arith in
-    ap (λ (k : ℕ). take at out ++ drop k out) z ∙ take-append-drop at out
-
 -- before the first output
-pub start_written : (s : State) (at : ℕ) (out : List ℕ) → (out ≡ overwrite at (departing_bytes 0 s) out) × (at ≡ at + length (departing_bytes 0 s))
-start_written s at out =
-    (sym (ap (λ (bs : List ℕ). overwrite at bs out) (bytes_none s) ∙ overwrite-none at out), omega (arith, ap length (bytes_none s)))
+pub start_written : (s : State) (w : Draft) → w ≡ appended (departing_bytes 0 s) w
+start_written s w = sym (ap (λ (bs : List ℕ). appended bs w) (bytes_none s) ∙ appended-none w)
 
 -- at output i, when what leaves by those before is written
-module _ (s₀ s₁ s₂ : State) (i at next₁ next₂ : ℕ) (out₀ out₁ out₂ : List ℕ) (e : s₁ ≡ depart_all i s₀) (q : s₂ ≡ depart_one i s₁)
-    (reach : at ≤ length out₀) (p₁ : out₁ ≡ overwrite at (departing_bytes i s₀) out₀) (n₁ : next₁ ≡ at + length (departing_bytes i s₀))
-    (p₂ : out₂ ≡ overwrite next₁ (leaving (departure_of i s₁)) out₁) (n₂ : next₂ ≡ next₁ + length (leaving (departure_of i s₁))) where
-  pub step-departed : s₂ ≡ depart_all (i + 1) s₀
-  step-departed = q ∙ (ap (λ (s : State). depart_one i s) e ∙ sym (depart-more i s₀))
+module _ (s₀ s₁ : State) (i : ℕ) (e : s₁ ≡ depart_all i s₀) where
+  pub step-departed : (s₂ : State) → s₂ ≡ depart_one i s₁ → s₂ ≡ depart_all (i + 1) s₀
+  step-departed s₂ q = q ∙ (ap (λ (s : State). depart_one i s) e ∙ sym (depart-more i s₀))
 
-  more_bytes : departing_bytes i s₀ ++ leaving (departure_of i s₁) ≡ departing_bytes (i + 1) s₀
-  more_bytes = ap (λ (s : State). departing_bytes i s₀ ++ leaving (departure_of i s)) e ∙ sym (bytes_more i s₀)
-
-  pub step_written : out₂ ≡ overwrite at (departing_bytes (i + 1) s₀) out₀
-  step_written =
-      written_then at next₁ (departing_bytes i s₀) (leaving (departure_of i s₁)) out₀ out₁ out₂ p₁ p₂ n₁ reach
-      ∙ ap (λ (bs : List ℕ). overwrite at bs out₀) more_bytes
-
-  pub step-next : next₂ ≡ at + length (departing_bytes (i + 1) s₀)
-  step-next = omega (arith, ap length more_bytes, length-append (departing_bytes i s₀) (leaving (departure_of i s₁)))
+  pub step_written : (w before last : Draft) → before ≡ appended (departing_bytes i s₀) w →
+      last ≡ appended (leaving (departure_of i s₁)) before → last ≡ appended (departing_bytes (i + 1) s₀) w
+  step_written w before last p q =
+      q ∙ ap (λ (z : Draft). appended (leaving (departure_of i s₁)) z) p
+      ∙ appended_then (departing_bytes i s₀) (leaving (departure_of i s₁)) w
+      ∙ ap (λ (s : State). appended (departing_bytes i s₀ ++ leaving (departure_of i s)) w) e
+      ∙ ap (λ (bs : List ℕ). appended bs w) (sym (bytes_more i s₀))

@@ -15,9 +15,9 @@ use Rattle.words.specs.declared.read.Kind.{Kind}
 use Rattle.words.specs.declared.read.Kind.TheVariants as kind
 use Rattle.words.specs.Kind.{kind_of}
 use Rattle.words.specs.Lines.{Line, settings, judge}
-use Rattle.words.specs.Writing.{overwrite, refusal_bytes}
+use Rattle.words.specs.Writing.{Draft, appended, cleared, refusal_bytes}
 use Rattle.words.specs.Answer.{Departure, flag_bytes, answer_bytes}
-use Rattle.words.proofs.Overwrites.{overwrite_front, overwrite-behind}
+use Rattle.switch.proofs.Turning.{written_front}
 use Rattle.words.proofs.Answered.{answer_front, answer-behind}
 use Rattle.cioq.specs.State.{begun}
 use Rattle.cioq.specs.State as real
@@ -37,15 +37,9 @@ use Rattle.crowd.specs.Crowd.{Status, Verdict, due_of, turn_of, turns_away, choi
 use Rattle.crowd.specs.Crowd.Status.{Unset, SlotDue, FirstDue, SecondDue}
 use Rattle.crowd.specs.Crowd.Verdict.{Refuse, Begin, Take, Choose}
 use Rattle.crowd.specs.State.{State, Holds, Arrived, arrives, Shows, Refused, Settled, Taken, Slotted, First, Second, Tried, Chosen, chosen, departures_of}
-use Rattle.crowd.specs.Promise.{Answers, Keeps, SameAnswer, SameAsIdeal}
+use Rattle.crowd.specs.Promise.{Answers, Keeps, TurnDone, SameAnswer, SameAsIdeal}
 use Rattle.crowd.proofs.Reading.{judge_ok, lines_fit, settings_range}
 use Rattle.crowd.proofs.Within.{run_placed, arrived_placed, departed_placed, arrive_holds, arrive-away, choice_stable, transfer_holds, depart_holds, depart_bytes, next_rising, next-departed, next-run, shows_good}
-
--- one turn of the crowd, as its call promises it
-pub record TurnDone (s after : State) (st : Status) (word : List ℕ) (r : ℕ) (out written : List ℕ) : Type 0 where
-  pub answers : Answers st word r out written
-  pub goes : Shows after (crowd_respond st word).0
-  pub keeps : Keeps st word s after
 
 -- what is due is what the status says
 due_is : (s : State) (st : Status) → Shows s st → s.due ≡ due_of st
@@ -92,39 +86,34 @@ module _ (s : State) (st : Status) (word : List ℕ) (h : Shows s st) (x : Turn)
 no_refusal : (v w : Verdict) (fault : Fault) → ((f : Fault) → w ≡ Refuse f → ⊥) → v ≡ w → v ≡ Refuse fault → ⊥
 no_refusal v w fault ne p q = ne fault (sym p ∙ q)
 
--- what is written to the front of a buffer
-written_front : (bytes out written : List ℕ) (r : ℕ) → r ≡ length bytes → written ≡ overwrite 0 bytes out → (take r written ≡ bytes) × (drop r written ≡ drop r out)
-written_front bytes out written r e f = (
-  ap (λ (k : ℕ). take k written) e ∙ (ap (λ (xs : List ℕ). take (length bytes) xs) f ∙ overwrite_front bytes out),
-  ap (λ (k : ℕ). drop k written) e ∙ (ap (λ (xs : List ℕ). drop (length bytes) xs) f ∙ (overwrite-behind bytes out ∙ ap (λ (k : ℕ). drop k out) (sym e))),
-)
-
 -- a turn without an answer
-silent : (st next : Status) (word : List ℕ) (r : ℕ) (out written : List ℕ) → crowd_respond st word ≡ (next, []) → r ≡ 0 → written ≡ out → Answers st word r out written
-silent st next word r out written a z o =
+silent : (st next : Status) (word : List ℕ) (out written : Draft) → crowd_respond st word ≡ (next, []) → written ≡ cleared out → Answers st word out written
+silent st next word out written a o =
+    let z = ap (λ (d : Draft). d.len) o in
     record {
       size = z ∙ sym (ap (λ x. length x.1) a);
-      bytes = ap (λ (k : ℕ). take k written) z ∙ sym (ap (λ x. x.1) a);
-      rest = ap (λ (xs : List ℕ). drop r xs) o;
+      bytes = ap (λ (k : ℕ). take k written.bytes) z ∙ sym (ap (λ x. x.1) a);
+      rest = ap (λ (d : Draft). drop written.len d.bytes) o;
     }
 
-module _ (s after : State) (st : Status) (word : List ℕ) (r : ℕ) (out written : List ℕ) (h : Shows s st) where
-  pub refused_turn : (fault : Fault) → decide st word ≡ Refuse fault → Refused fault s after r out written → TurnDone s after st word r out written
+module _ (s after : State) (st : Status) (word : List ℕ) (out written : Draft) (h : Shows s st) where
+  pub refused_turn : (fault : Fault) → decide st word ≡ Refuse fault → Refused fault s after out written → TurnDone s after st word out written
   refused_turn fault e f =
       let a : crowd_respond st word ≡ (st, refusal_bytes fault) = ap (λ (v : Verdict). outcome st v) e in
-      let w = written_front (refusal_bytes fault) out written r f.size f.bytes in
+      let size = ap (λ (d : Draft). d.len) f.told in
+      let w = written_front (refusal_bytes fault) out.bytes written.bytes written.len size (ap (λ (d : Draft). d.bytes) f.told) in
       record {
-        answers = record { size = f.size ∙ sym (ap (λ x. length x.1) a); bytes = w.0 ∙ sym (ap (λ x. x.1) a); rest = w.1 };
+        answers = record { size = size ∙ sym (ap (λ x. length x.1) a); bytes = w.0 ∙ sym (ap (λ x. x.1) a); rest = w.1 };
         goes = subst (λ (z : Status). Shows after z) (sym (ap (λ x. x.0) a)) (subst (λ (z : State). Shows z st) (sym f.same) h);
         keeps = λ _ _. f.same;
       }
 
-  begun_turn : (n : ℕ) → decide st word ≡ Begin n → 0 < n → n ≤ 32 → after ≡ record { real = begun n s.real; due = due.Slot; away = s.away } → r ≡ 0 → written ≡ out → TurnDone s after st word r out written
+  begun_turn : (n : ℕ) → decide st word ≡ Begin n → 0 < n → n ≤ 32 → after ≡ record { real = begun n s.real; due = due.Slot; away = s.away } → written ≡ cleared out → TurnDone s after st word out written
   unfolding AllFit
-  begun_turn n e pos few f z o =
+  begun_turn n e pos few f o =
       let a : crowd_respond st word ≡ (SlotDue n [] empty, []) = ap (λ (v : Verdict). outcome st v) e in
       record {
-        answers = silent st (SlotDue n [] empty) word r out written a z o;
+        answers = silent st (SlotDue n [] empty) word out written a o;
         goes = subst (λ (x : Status). Shows after x) (sym (ap (λ x. x.0) a)) (subst (λ (x : State). Shows x (SlotDue n [] empty)) (sym f) begun_shows);
         keeps = λ fault q. absurd (no_refusal (decide st word) (Begin n) fault (λ f p. let z : ◌≡◌ {A = ℕ} 0 1 = cc in omega arith) e q);
       }
@@ -145,21 +134,21 @@ module _ (s after : State) (st : Status) (word : List ℕ) (r : ℕ) (out writte
             begin,
           )
 
-  pub settled_turn : turn_of s.due (kind_of word) ≡ turn.Settings → Settled (settings word) s after r out written → TurnDone s after st word r out written
+  pub settled_turn : turn_of s.due (kind_of word) ≡ turn.Settings → Settled (settings word) s after out written → TurnDone s after st word out written
   settled_turn k d = go (settings word) refl d
     where
-      go : (v : Result ℕ Fault) → settings word ≡ v → Settled v s after r out written → TurnDone s after st word r out written
+      go : (v : Result ℕ Fault) → settings word ≡ v → Settled v s after out written → TurnDone s after st word out written
       go (Ok n) e d =
           let range = settings_range word n e in
-          begun_turn n (decide_is s st word h turn.Settings k ∙ ap (λ (v : Result ℕ Fault). settings_verdict v) e) range.0 range.1 d.0 d.1 d.2
+          begun_turn n (decide_is s st word h turn.Settings k ∙ ap (λ (v : Result ℕ Fault). settings_verdict v) e) range.0 range.1 d.0 d.1
       go (Err fault) e d =
           refused_turn fault (decide_is s st word h turn.Settings k ∙ ap (λ (v : Result ℕ Fault). settings_verdict v) e) d
 
-  pub malformed_turn : turn_of s.due (kind_of word) ≡ turn.Refusal → after ≡ s → r ≡ 2 → written ≡ overwrite 0 (refusal_bytes Malformed) out → TurnDone s after st word r out written
-  malformed_turn k a b c = refused_turn Malformed (decide_is s st word h turn.Refusal k) (record { same = a; size = b; bytes = c })
+  pub malformed_turn : turn_of s.due (kind_of word) ≡ turn.Refusal → after ≡ s → written ≡ appended (refusal_bytes Malformed) (cleared out) → TurnDone s after st word out written
+  malformed_turn k a c = refused_turn Malformed (decide_is s st word h turn.Refusal k) (record { same = a; told = c })
 
 -- a slot, where one is due
-module _ (s after : State) (past : List SlotIn) (b : Box) (word : List ℕ) (r : ℕ) (out written : List ℕ) (h : Shows s (SlotDue s.real.lines past b)) (k : turn_of s.due (kind_of word) ≡ turn.Slot) where
+module _ (s after : State) (past : List SlotIn) (b : Box) (word : List ℕ) (out written : Draft) (h : Shows s (SlotDue s.real.lines past b)) (k : turn_of s.due (kind_of word) ≡ turn.Slot) where
   abbrev n : ℕ
   n = s.real.lines
 
@@ -168,7 +157,7 @@ module _ (s after : State) (past : List SlotIn) (b : Box) (word : List ℕ) (r :
       decide_is s (SlotDue n past b) word h turn.Slot k
       ∙ (ap (λ (t : ℕ). slot_verdict (judge n 64 (leb 4294967296 t) (drop 1 word))) (sym h.0.slots) ∙ ap (λ (x : Result (List Line) Fault). slot_verdict x) e)
 
-  taken_turn : (ls : List Line) → judge n 64 (leb 4294967296 s.real.slots) (drop 1 word) ≡ Ok ls → Taken ls s after r out written → TurnDone s after (SlotDue n past b) word r out written
+  taken_turn : (ls : List Line) → judge n 64 (leb 4294967296 s.real.slots) (drop 1 word) ≡ Ok ls → Taken ls s after out written → TurnDone s after (SlotDue n past b) word out written
   taken_turn ls e d =
       let v = slot_verdict_lem (Ok ls) e in
       let next = FirstDue n (slot_of ls ∷ past) (model.arrived 256 n (arrived past) (arrivals_of ls) b) (turns_away n b (arrivals_of ls)) in
@@ -177,16 +166,16 @@ module _ (s after : State) (past : List SlotIn) (b : Box) (word : List ℕ) (r :
       let p = run_placed n past b h.2 in
       let flags : take n after.away ≡ turns_away n b (arrivals_of ls) = flags_all (λ i. not (room_for 256 n i (arrivals_of ls) b (arrivals_of ls i))) after.away n d.inputs h.0.good.few (λ i l. d.flags i (omega (arith, h.0.good.few)) ∙ (ap (λ (t : Bool). t && away ls s.real i) (lt-ltb i n l) ∙ arrive-away s.real past b h.0 p (drop 1 word) ls j.0 j.1 i l)) in
       record {
-        answers = silent (SlotDue n past b) next word r out written a d.size d.same;
+        answers = silent (SlotDue n past b) next word out written a d.silent;
         goes = subst (λ (x : Status). Shows after x) (sym (ap (λ x. x.0) a)) (subst (λ (x : real.State). Holds x n (slot_of ls ∷ past) (model.arrived 256 n (arrived past) (arrivals_of ls) b)) (sym d.box) (arrive_holds s.real past b h.0 p (drop 1 word) ls j.0 j.1), d.next, arrives (slot_of ls) h.2, flags);
         keeps = λ fault q. absurd (no_refusal (decide (SlotDue n past b) word) (Take ls) fault (λ f p. let z : ◌≡◌ {A = ℕ} 0 1 = cc in omega arith) v q);
       }
 
-  slot_turn_lem : Slotted (judge n 64 (leb 4294967296 s.real.slots) (drop 1 word)) s after r out written → TurnDone s after (SlotDue n past b) word r out written
+  slot_turn_lem : Slotted (judge n 64 (leb 4294967296 s.real.slots) (drop 1 word)) s after out written → TurnDone s after (SlotDue n past b) word out written
   slot_turn_lem d = go (judge n 64 (leb 4294967296 s.real.slots) (drop 1 word)) refl d
     where
-      go : (v : Result (List Line) Fault) → judge n 64 (leb 4294967296 s.real.slots) (drop 1 word) ≡ v → Slotted v s after r out written → TurnDone s after (SlotDue n past b) word r out written
-      go (Err fault) e d = refused_turn s after (SlotDue n past b) word r out written h fault (slot_verdict_lem (Err fault) e) d
+      go : (v : Result (List Line) Fault) → judge n 64 (leb 4294967296 s.real.slots) (drop 1 word) ≡ v → Slotted v s after out written → TurnDone s after (SlotDue n past b) word out written
+      go (Err fault) e d = refused_turn s after (SlotDue n past b) word out written h fault (slot_verdict_lem (Err fault) e) d
       go (Ok ls) e d = taken_turn ls e d
 
 -- a choice that is tested over memory is tested over the box that memory spells
@@ -217,11 +206,11 @@ module _ (s : State) (st : Status) (past : List SlotIn) (b : Box) (word : List �
       go (Err fault) e d = left fault (decided ∙ ap (λ (v : Result (List Line) Fault). choice_verdict lines b v) e) d
 
 -- a first choice, where one is due
-module _ (s after : State) (past : List SlotIn) (b : Box) (away : List Bool) (word : List ℕ) (r : ℕ) (out written : List ℕ) (h : Shows s (FirstDue s.real.lines past b away)) (k : turn_of s.due (kind_of word) ≡ turn.First) where
+module _ (s after : State) (past : List SlotIn) (b : Box) (away : List Bool) (word : List ℕ) (out written : Draft) (h : Shows s (FirstDue s.real.lines past b away)) (k : turn_of s.due (kind_of word) ≡ turn.First) where
   abbrev m : ℕ
   m = s.real.lines
 
-  first_taken : (ls : List Line) → decide (FirstDue m past b away) word ≡ Choose ls → judge m 0 false (drop 1 word) ≡ Ok ls → Ok tt ≡ judge_choice m (arrivals_of ls) b → First ls s after r out written → TurnDone s after (FirstDue m past b away) word r out written
+  first_taken : (ls : List Line) → decide (FirstDue m past b away) word ≡ Choose ls → judge m 0 false (drop 1 word) ≡ Ok ls → Ok tt ≡ judge_choice m (arrivals_of ls) b → First ls s after out written → TurnDone s after (FirstDue m past b away) word out written
   first_taken ls v e ok d =
       let ms = picks m (arrivals_of ls) b in
       let j = judge_ok m 0 false (drop 1 word) ls e in
@@ -236,21 +225,21 @@ module _ (s after : State) (past : List SlotIn) (b : Box) (away : List Bool) (wo
       let fs = take m s.away in
       let bytes : answer_bytes ds fs ≡ choice_answer m past (transfer ms b) away = ap (λ (bs : List ℕ). 3 ∷ (bs ++ flag_bytes fs)) (depart_bytes (chosen ls s) m past (transfer ms b) over up) ∙ ap (λ (f : List Bool). answer_bytes (map (λ o. with_body past (model.departs o (transfer ms b))) (range_with_len 0 m)) f) h.3 in
       record {
-        answers = record { size = d.answer.next ∙ (ap (λ (xs : List ℕ). length xs) bytes ∙ sym (ap (λ x. length x.1) a)); bytes = answer_front out written r ds fs d.answer ∙ (bytes ∙ sym (ap (λ x. x.1) a)); rest = answer-behind out written r ds fs d.answer };
+        answers = record { size = d.answer.next ∙ (ap (λ (xs : List ℕ). length xs) bytes ∙ sym (ap (λ x. length x.1) a)); bytes = answer_front out.bytes written.bytes written.len ds fs d.answer ∙ (bytes ∙ sym (ap (λ x. x.1) a)); rest = answer-behind out.bytes written.bytes written.len ds fs d.answer };
         goes = subst (λ (x : Status). Shows after x) (sym (ap (λ x. x.0) a)) (subst (λ (x : State). Shows x next) (sym d.box) (depart_holds (chosen ls s) m past (transfer ms b) over up, refl, next-departed m ms h.2 stable));
         keeps = λ fault q. absurd (no_refusal (decide (FirstDue m past b away) word) (Choose ls) fault (λ f p. let z : ◌≡◌ {A = ℕ} 0 1 = cc in omega arith) v q);
       }
 
-  first_turn : Chosen (λ ls. First ls s after r out written) (λ fault. Refused fault s after r out written) s (judge m 0 false (drop 1 word)) → TurnDone s after (FirstDue m past b away) word r out written
+  first_turn : Chosen (λ ls. First ls s after out written) (λ fault. Refused fault s after out written) s (judge m 0 false (drop 1 word)) → TurnDone s after (FirstDue m past b away) word out written
   first_turn d =
-      chosen-cases s (FirstDue m past b away) past b word h.0 (decide_is s (FirstDue m past b away) word h turn.First k) (λ ls. First ls s after r out written) (λ fault. Refused fault s after r out written) (TurnDone s after (FirstDue m past b away) word r out written) first_taken (λ fault e f. refused_turn s after (FirstDue m past b away) word r out written h fault e f) d
+      chosen-cases s (FirstDue m past b away) past b word h.0 (decide_is s (FirstDue m past b away) word h turn.First k) (λ ls. First ls s after out written) (λ fault. Refused fault s after out written) (TurnDone s after (FirstDue m past b away) word out written) first_taken (λ fault e f. refused_turn s after (FirstDue m past b away) word out written h fault e f) d
 
 -- a second choice, where one is due
-module _ (s after : State) (past : List SlotIn) (b : Box) (word : List ℕ) (r : ℕ) (out written : List ℕ) (h : Shows s (SecondDue s.real.lines past b)) (k : turn_of s.due (kind_of word) ≡ turn.Second) where
+module _ (s after : State) (past : List SlotIn) (b : Box) (word : List ℕ) (out written : Draft) (h : Shows s (SecondDue s.real.lines past b)) (k : turn_of s.due (kind_of word) ≡ turn.Second) where
   abbrev l : ℕ
   l = s.real.lines
 
-  second_taken : (ls : List Line) → decide (SecondDue l past b) word ≡ Choose ls → judge l 0 false (drop 1 word) ≡ Ok ls → Ok tt ≡ judge_choice l (arrivals_of ls) b → Second ls s after r out written → TurnDone s after (SecondDue l past b) word r out written
+  second_taken : (ls : List Line) → decide (SecondDue l past b) word ≡ Choose ls → judge l 0 false (drop 1 word) ≡ Ok ls → Ok tt ≡ judge_choice l (arrivals_of ls) b → Second ls s after out written → TurnDone s after (SecondDue l past b) word out written
   second_taken ls v e ok d =
       let ms = picks l (arrivals_of ls) b in
       let j = judge_ok l 0 false (drop 1 word) ls e in
@@ -259,41 +248,41 @@ module _ (s after : State) (past : List SlotIn) (b : Box) (word : List ℕ) (r :
       let next = SlotDue l past (transfer ms b) in
       let a : crowd_respond (SecondDue l past b) word ≡ (next, []) = ap (λ (x : Verdict). outcome (SecondDue l past b) x) v in
       record {
-        answers = silent (SecondDue l past b) next word r out written a d.size d.same;
+        answers = silent (SecondDue l past b) next word out written a d.silent;
         goes = subst (λ (x : Status). Shows after x) (sym (ap (λ x. x.0) a)) (subst (λ (x : State). Shows x next) (sym d.box) (transfer_holds s.real past b (length (arrived past)) (arrivals_of ls) h.0 p fits ok, refl, next-run l ms h.2 (choice_stable s.real past b (length (arrived past)) (arrivals_of ls) h.0 p fits ok)));
         keeps = λ fault q. absurd (no_refusal (decide (SecondDue l past b) word) (Choose ls) fault (λ f p. let z : ◌≡◌ {A = ℕ} 0 1 = cc in omega arith) v q);
       }
 
-  second_turn : Chosen (λ ls. Second ls s after r out written) (λ fault. Refused fault s after r out written) s (judge l 0 false (drop 1 word)) → TurnDone s after (SecondDue l past b) word r out written
+  second_turn : Chosen (λ ls. Second ls s after out written) (λ fault. Refused fault s after out written) s (judge l 0 false (drop 1 word)) → TurnDone s after (SecondDue l past b) word out written
   second_turn d =
-      chosen-cases s (SecondDue l past b) past b word h.0 (decide_is s (SecondDue l past b) word h turn.Second k) (λ ls. Second ls s after r out written) (λ fault. Refused fault s after r out written) (TurnDone s after (SecondDue l past b) word r out written) second_taken (λ fault e f. refused_turn s after (SecondDue l past b) word r out written h fault e f) d
+      chosen-cases s (SecondDue l past b) past b word h.0 (decide_is s (SecondDue l past b) word h turn.Second k) (λ ls. Second ls s after out written) (λ fault. Refused fault s after out written) (TurnDone s after (SecondDue l past b) word out written) second_taken (λ fault e f. refused_turn s after (SecondDue l past b) word out written h fault e f) d
 
 -- for every status
 
-module _ (s after : State) (word : List ℕ) (r : ℕ) (out written : List ℕ) where
-  pub slotted_turn : (st : Status) → Shows s st → turn_of s.due (kind_of word) ≡ turn.Slot → Slotted (judge s.real.lines 64 (leb 4294967296 s.real.slots) (drop 1 word)) s after r out written → TurnDone s after st word r out written
+module _ (s after : State) (word : List ℕ) (out written : Draft) where
+  pub slotted_turn : (st : Status) → Shows s st → turn_of s.due (kind_of word) ≡ turn.Slot → Slotted (judge s.real.lines 64 (leb 4294967296 s.real.slots) (drop 1 word)) s after out written → TurnDone s after st word out written
   slotted_turn Unset h k d = absurd (let e = due_there s Unset word h turn.Slot k in let z : ◌≡◌ {A = ℕ} 0 1 = cc in omega arith)
   slotted_turn (FirstDue n past b away) h k d = absurd (let e = due_there s (FirstDue n past b away) word h turn.Slot k in let z : ◌≡◌ {A = ℕ} 0 1 = cc in omega arith)
   slotted_turn (SecondDue n past b) h k d = absurd (let e = due_there s (SecondDue n past b) word h turn.Slot k in let z : ◌≡◌ {A = ℕ} 0 1 = cc in omega arith)
   slotted_turn (SlotDue n past b) h k d =
-      subst (λ (x : ℕ). TurnDone s after (SlotDue x past b) word r out written) h.0.lines
-      (slot_turn_lem s after past b word r out written (subst (λ (x : ℕ). Shows s (SlotDue x past b)) (sym h.0.lines) h) k d)
+      subst (λ (x : ℕ). TurnDone s after (SlotDue x past b) word out written) h.0.lines
+      (slot_turn_lem s after past b word out written (subst (λ (x : ℕ). Shows s (SlotDue x past b)) (sym h.0.lines) h) k d)
 
-  pub chosen-first_turn : (st : Status) → Shows s st → turn_of s.due (kind_of word) ≡ turn.First → Chosen (λ ls. First ls s after r out written) (λ fault. Refused fault s after r out written) s (judge s.real.lines 0 false (drop 1 word)) → TurnDone s after st word r out written
+  pub chosen-first_turn : (st : Status) → Shows s st → turn_of s.due (kind_of word) ≡ turn.First → Chosen (λ ls. First ls s after out written) (λ fault. Refused fault s after out written) s (judge s.real.lines 0 false (drop 1 word)) → TurnDone s after st word out written
   chosen-first_turn Unset h k d = absurd (let e = due_there s Unset word h turn.First k in let z : ◌≡◌ {A = ℕ} 0 1 = cc in omega arith)
   chosen-first_turn (SlotDue n past b) h k d = absurd (let e = due_there s (SlotDue n past b) word h turn.First k in let z : ◌≡◌ {A = ℕ} 0 1 = cc in omega arith)
   chosen-first_turn (SecondDue n past b) h k d = absurd (let e = due_there s (SecondDue n past b) word h turn.First k in let z : ◌≡◌ {A = ℕ} 0 1 = cc in omega arith)
   chosen-first_turn (FirstDue n past b away) h k d =
-      subst (λ (x : ℕ). TurnDone s after (FirstDue x past b away) word r out written) h.0.lines
-      (first_turn s after past b away word r out written (subst (λ (x : ℕ). Shows s (FirstDue x past b away)) (sym h.0.lines) h) k d)
+      subst (λ (x : ℕ). TurnDone s after (FirstDue x past b away) word out written) h.0.lines
+      (first_turn s after past b away word out written (subst (λ (x : ℕ). Shows s (FirstDue x past b away)) (sym h.0.lines) h) k d)
 
-  pub chosen_second_turn : (st : Status) → Shows s st → turn_of s.due (kind_of word) ≡ turn.Second → Chosen (λ ls. Second ls s after r out written) (λ fault. Refused fault s after r out written) s (judge s.real.lines 0 false (drop 1 word)) → TurnDone s after st word r out written
+  pub chosen_second_turn : (st : Status) → Shows s st → turn_of s.due (kind_of word) ≡ turn.Second → Chosen (λ ls. Second ls s after out written) (λ fault. Refused fault s after out written) s (judge s.real.lines 0 false (drop 1 word)) → TurnDone s after st word out written
   chosen_second_turn Unset h k d = absurd (let e = due_there s Unset word h turn.Second k in let z : ◌≡◌ {A = ℕ} 0 1 = cc in omega arith)
   chosen_second_turn (SlotDue n past b) h k d = absurd (let e = due_there s (SlotDue n past b) word h turn.Second k in let z : ◌≡◌ {A = ℕ} 0 1 = cc in omega arith)
   chosen_second_turn (FirstDue n past b away) h k d = absurd (let e = due_there s (FirstDue n past b away) word h turn.Second k in let z : ◌≡◌ {A = ℕ} 0 1 = cc in omega arith)
   chosen_second_turn (SecondDue n past b) h k d =
-      subst (λ (x : ℕ). TurnDone s after (SecondDue x past b) word r out written) h.0.lines
-      (second_turn s after past b word r out written (subst (λ (x : ℕ). Shows s (SecondDue x past b)) (sym h.0.lines) h) k d)
+      subst (λ (x : ℕ). TurnDone s after (SecondDue x past b) word out written) h.0.lines
+      (second_turn s after past b word out written (subst (λ (x : ℕ). Shows s (SecondDue x past b)) (sym h.0.lines) h) k d)
 
 -- the promise
 
@@ -339,8 +328,8 @@ same_answer c n s past b away h word ls e =
     ap (λ (x : Verdict). (outcome (FirstDue n (s ∷ past) b away) x).1) e ∙ ideal_answer n h.2 past s refl (picks n (arrivals_of ls) b) stable
 
 -- a turn answers a first choice as the ideal box answers its slot
-pub same_turn : (s after : State) (word : List ℕ) (r : ℕ) (out written : List ℕ) → ((st : Status) → Shows s st → TurnDone s after st word r out written) → (n : ℕ) (t : SlotIn) (past : List SlotIn) (b : Box) (away : List Bool) → Shows s (FirstDue n (t ∷ past) b away) → (ls : List Line) → decide (FirstDue n (t ∷ past) b away) word ≡ Choose ls → take r written ≡ slot_answer n past t
-same_turn s after word r out written f n t past b away h ls e =
+pub same_turn : (s after : State) (word : List ℕ) (out written : Draft) → ((st : Status) → Shows s st → TurnDone s after st word out written) → (n : ℕ) (t : SlotIn) (past : List SlotIn) (b : Box) (away : List Bool) → Shows s (FirstDue n (t ∷ past) b away) → (ls : List Line) → decide (FirstDue n (t ∷ past) b away) word ≡ Choose ls → take written.len written.bytes ≡ slot_answer n past t
+same_turn s after word out written f n t past b away h ls e =
     (f (FirstDue n (t ∷ past) b away) h).answers.bytes ∙ same_answer s n t past b away h word ls e
 
 -- a slot that is taken is one to the ideal box too

@@ -7,7 +7,7 @@ use Rattle.crossbox.specs.Box as model
 use Rattle.crossbox.specs.Promise.{AllFit}
 use Rattle.words.specs.declared.fault.Fault.{Fault}
 use Rattle.words.specs.Lines.{Line, read_lines, judge}
-use Rattle.words.specs.Writing.{overwrite, refusal_bytes}
+use Rattle.words.specs.Writing.{Draft, appended, cleared, refusal_bytes}
 use Rattle.words.specs.Answer.{Departure, Written}
 use Rattle.cioq.specs.State.{Good, begun, passed}
 use Rattle.cioq.specs.State as real
@@ -58,31 +58,34 @@ Shows s (FirstDue n past b flags) =
     Holds s.real n past b × (s.due ≡ due.First) × Arrived n past b flags × (take n s.away ≡ flags)
 Shows s (SecondDue n past b) = Holds s.real n past b × (s.due ≡ due.Second) × Departed n past b
 
+-- what is answered in the end: what was written, or the refusal that is then written over it
+abbrev pub Told : Result (Unit {0}) Fault → Draft → Draft → Type 0
+Told (Ok u) written told = told ≡ written
+Told (Err fault) written told = told ≡ appended (refusal_bytes fault) (cleared written)
+
 -- a refusal was written, and nothing else is changed
-pub record Refused (fault : Fault) (s after : State) (r : ℕ) (out written : List ℕ) : Type 0 where
+pub record Refused (fault : Fault) (s after : State) (out written : Draft) : Type 0 where
   pub same : after ≡ s
-  pub size : r ≡ 2
-  pub bytes : written ≡ overwrite 0 (refusal_bytes fault) out
+  pub told : written ≡ appended (refusal_bytes fault) (cleared out)
 
 -- a settings word was taken or refused
-abbrev pub Settled : Result ℕ Fault → State → State → ℕ → List ℕ → List ℕ → Type 0
-Settled (Ok n) s after r out written =
-    (after ≡ record { real = begun n s.real; due = due.Slot; away = s.away }) × (r ≡ 0) × (written ≡ out)
-Settled (Err fault) s after r out written = Refused fault s after r out written
+abbrev pub Settled : Result ℕ Fault → State → State → Draft → Draft → Type 0
+Settled (Ok n) s after out written =
+    (after ≡ record { real = begun n s.real; due = due.Slot; away = s.away }) × (written ≡ cleared out)
+Settled (Err fault) s after out written = Refused fault s after out written
 
 -- the cells of a slot have arrived
-pub record Taken (ls : List Line) (s after : State) (r : ℕ) (out written : List ℕ) : Type 0 where
+pub record Taken (ls : List Line) (s after : State) (out written : Draft) : Type 0 where
   pub box : after.real ≡ passed (admit_all ls s.real.lines s.real)
   pub next : after.due ≡ due.First
   pub inputs : length after.away ≡ 32
   pub flags : (i : ℕ) → i < 32 → slice_index_or after.away i false ≡ (nat_lt i s.real.lines && away ls s.real i)
-  pub size : r ≡ 0
-  pub same : written ≡ out
+  pub silent : written ≡ cleared out
 
 -- a slot word was taken or refused
-abbrev pub Slotted : Result (List Line) Fault → State → State → ℕ → List ℕ → List ℕ → Type 0
-Slotted (Ok ls) s after r out written = Taken ls s after r out written
-Slotted (Err fault) s after r out written = Refused fault s after r out written
+abbrev pub Slotted : Result (List Line) Fault → State → State → Draft → Draft → Type 0
+Slotted (Ok ls) s after out written = Taken ls s after out written
+Slotted (Err fault) s after out written = Refused fault s after out written
 
 -- the n lines of a choice's bytes
 abbrev pub choice_lines : ℕ → List ℕ → List Line
@@ -114,15 +117,14 @@ abbrev pub chosen : List Line → State → real.State
 chosen ls s = transfer_all s.real.lines (arrivals_of ls) s.real
 
 -- a first choice was taken
-pub record First (ls : List Line) (s after : State) (r : ℕ) (out written : List ℕ) : Type 0 where
+pub record First (ls : List Line) (s after : State) (out written : Draft) : Type 0 where
   pub box : after ≡ record { real = depart_all s.real.lines (chosen ls s); due = due.Second; away = s.away }
-  pub answer : Written out written r (departures_of s.real.lines (chosen ls s)) (take s.real.lines s.away)
+  pub answer : Written out.bytes written.bytes written.len (departures_of s.real.lines (chosen ls s)) (take s.real.lines s.away)
 
 -- a second choice was taken
-pub record Second (ls : List Line) (s after : State) (r : ℕ) (out written : List ℕ) : Type 0 where
+pub record Second (ls : List Line) (s after : State) (out written : Draft) : Type 0 where
   pub box : after ≡ record { real = chosen ls s; due = due.Slot; away = s.away }
-  pub size : r ≡ 0
-  pub same : written ≡ out
+  pub silent : written ≡ cleared out
 
 -- what a taken choice does, or a refusal
 abbrev pub Tried : (List Line → Type 0) → (Fault → Type 0) → List Line → Result (Unit {0}) Fault → Type 0

@@ -11,8 +11,9 @@ ghost use Rattle.switch.specs.Respond.{SlotIn, slot_answer};
 ghost use Rattle.crowd.specs.Crowd.{Status, turn_of, decide, crowd_respond};
 ghost use Rattle.crowd.specs.Crowd.Status.{Unset, FirstDue};
 ghost use Rattle.crowd.specs.Crowd.Verdict.{Choose};
-ghost use Rattle.crowd.specs.State.{state, Shows, Settled, Slotted, choice_lines, Choosing, Chosen, First, Second, Refused};
-ghost use Rattle.crowd.specs.Promise.{Answers, Keeps, SameAnswer, SameAsIdeal};
+ghost use Rattle.words.specs.Writing.{Draft};
+ghost use Rattle.crowd.specs.State.{state, Shows, Told, Settled, Slotted, choice_lines, Choosing, Chosen, First, Second, Refused};
+ghost use Rattle.crowd.specs.Promise.{Answers, Keeps, TurnDone, SameAnswer, SameAsIdeal};
 
 mod print;
 
@@ -21,12 +22,8 @@ use cioq::RealBox;
 use crossbox::Arrival;
 pub use print::{Part, differs, next_part};
 use words::{
-    ANSWER, BODY, Fault, Kind, judge_lines, read_entry, read_settings, write_byte, write_flags,
-    write_refusal,
+    ANSWER, Answer, BODY, Fault, Kind, SLOT_LIMIT, judge_lines, read_entry, read_settings,
 };
-
-// How many slots a box takes after its settings.
-const SLOT_LIMIT: u64 = 4294967296;
 
 // A choice names cells, and has no bytes of theirs.
 const NO_BODY: usize = 0;
@@ -107,36 +104,29 @@ impl<'a> Crowd<'a> {
     }
 
     // Takes a settings word.
-    fn take_settings(&mut self, word: &[u8], out: &mut [u8; 2241]) -> usize
+    fn take_settings(&mut self, word: &[u8], answer: &mut Answer) -> Result<(), Fault>
         requires { (st : Status) × Shows (state self.old) st }
-        ensures { Settled (settings word.now) (state self.old) (state self.new) result out.old out.new }
+        ensures { (told : Draft) → Told result answer.new told → Settled (settings word.now) (state self.old) (state self.new) answer.old told }
     {
-        match read_settings(word) {
-            Ok(lines) => {
-                self.real.begin(lines);
-                self.due = Due::Slot;
-                0
-            }
-            Err(fault) => write_refusal(out, fault),
-        }
+        let lines = read_settings(word)?;
+        self.real.begin(lines);
+        self.due = Due::Slot;
+        answer.clear();
+        Ok(())
     }
 
     // Takes the lines of a slot word: its cells arrive.
-    fn take_slot(&mut self, lines: &[u8], out: &mut [u8; 2241]) -> usize
+    fn take_slot(&mut self, lines: &[u8], answer: &mut Answer) -> Result<(), Fault>
         requires { (st : Status) × Shows (state self.old) st }
-        ensures { Slotted (judge (state self.old).real.lines 64 (nat_le 4294967296 (state self.old).real.slots) lines.now) (state self.old) (state self.new) result out.old out.new }
+        ensures { (told : Draft) → Told result answer.new told → Slotted (judge (state self.old).real.lines 64 (nat_le 4294967296 (state self.old).real.slots) lines.now) (state self.old) (state self.new) answer.old told }
     {
         let late = self.real.slots() >= SLOT_LIMIT;
-        match judge_lines(self.real.lines(), BODY, late, lines) {
-            Ok(()) => {
-                let away = self.real.arrive(lines);
-                self.real.pass();
-                self.away = away;
-                self.due = Due::First;
-                0
-            }
-            Err(fault) => write_refusal(out, fault),
-        }
+        judge_lines(self.real.lines(), BODY, late, lines)?;
+        self.away = self.real.arrive(lines);
+        self.real.pass();
+        self.due = Due::First;
+        answer.clear();
+        Ok(())
     }
 
     // The choice of a word, or its lowest fault.
@@ -144,64 +134,63 @@ impl<'a> Crowd<'a> {
         requires { (st : Status) × Shows (state self.now) st }
         ensures { Choosing (state self.now) lines.now result }
     {
-        match judge_lines(self.real.lines(), NO_BODY, false, lines) {
-            Ok(()) => {
-                let choice = read_choice(self.real.lines(), lines);
-                match self.real.test(&choice) {
-                    Ok(()) => Ok(choice),
-                    Err(fault) => Err(fault),
-                }
-            }
-            Err(fault) => Err(fault),
-        }
+        judge_lines(self.real.lines(), NO_BODY, false, lines)?;
+        let choice = read_choice(self.real.lines(), lines);
+        self.real.test(&choice)?;
+        Ok(choice)
     }
 
     // Takes the lines of a first choice: its cells are transferred, and the earliest depart.
-    fn take_first(&mut self, lines: &[u8], out: &mut [u8; 2241]) -> usize
+    fn take_first(&mut self, lines: &[u8], answer: &mut Answer) -> Result<(), Fault>
         requires { (st : Status) × Shows (state self.old) st }
-        ensures { Chosen (λ ls. First ls (state self.old) (state self.new) result out.old out.new) (λ fault. Refused fault (state self.old) (state self.new) result out.old out.new) (state self.old) (judge (state self.old).real.lines 0 false lines.now) }
+        ensures { (told : Draft) → Told result answer.new told → Chosen (λ ls. First ls (state self.old) (state self.new) answer.old told) (λ fault. Refused fault (state self.old) (state self.new) answer.old told) (state self.old) (judge (state self.old).real.lines 0 false lines.now) }
     {
-        match self.choose(lines) {
-            Ok(choice) => {
-                self.real.transfer(&choice);
-                let begun = write_byte(out, 0, ANSWER);
-                let left = self.real.depart(out, begun);
-                self.due = Due::Second;
-                write_flags(out, left, self.real.lines(), &self.away)
-            }
-            Err(fault) => write_refusal(out, fault),
-        }
+        let inputs = self.real.lines() as usize;
+        let choice = self.choose(lines)?;
+        self.real.transfer(&choice);
+        answer.begin(ANSWER);
+        self.real.depart(answer);
+        self.due = Due::Second;
+        answer.push_flags(&self.away[..inputs]);
+        Ok(())
     }
 
     // Takes the lines of a second choice: its cells are transferred.
-    fn take_second(&mut self, lines: &[u8], out: &mut [u8; 2241]) -> usize
+    fn take_second(&mut self, lines: &[u8], answer: &mut Answer) -> Result<(), Fault>
         requires { (st : Status) × Shows (state self.old) st }
-        ensures { Chosen (λ ls. Second ls (state self.old) (state self.new) result out.old out.new) (λ fault. Refused fault (state self.old) (state self.new) result out.old out.new) (state self.old) (judge (state self.old).real.lines 0 false lines.now) }
+        ensures { (told : Draft) → Told result answer.new told → Chosen (λ ls. Second ls (state self.old) (state self.new) answer.old told) (λ fault. Refused fault (state self.old) (state self.new) answer.old told) (state self.old) (judge (state self.old).real.lines 0 false lines.now) }
     {
-        match self.choose(lines) {
-            Ok(choice) => {
-                self.real.transfer(&choice);
-                self.due = Due::Slot;
-                0
-            }
-            Err(fault) => write_refusal(out, fault),
+        let choice = self.choose(lines)?;
+        self.real.transfer(&choice);
+        self.due = Due::Slot;
+        answer.clear();
+        Ok(())
+    }
+
+    // Takes a word; a refusal is left to be written.
+    fn take(&mut self, word: &[u8], answer: &mut Answer) -> Result<(), Fault>
+        requires { (st : Status) × Shows (state self.old) st }
+        ensures { (told : Draft) → Told result answer.new told → (st : Status) → Shows (state self.old) st → TurnDone (state self.old) (state self.new) st word.now answer.old told }
+    {
+        match turn_of(self.due, Kind::of(word)) {
+            Turn::Settings => self.take_settings(word, answer),
+            Turn::Slot => self.take_slot(&word[1..], answer),
+            Turn::First => self.take_first(&word[1..], answer),
+            Turn::Second => self.take_second(&word[1..], answer),
+            Turn::Refusal => Err(Fault::Malformed),
         }
     }
 
-    // Takes a word; writes the answer to the front of the buffer, and gives its length.
-    pub fn answer(&mut self, word: &[u8], out: &mut [u8; 2241]) -> usize
+    // Takes a word, and writes its answer.
+    pub fn answer(&mut self, word: &[u8], answer: &mut Answer)
         requires { (st : Status) × Shows (state self.old) st }
-        ensures answers { (st : Status) → Shows (state self.old) st → Answers st word.now result out.old out.new }
+        ensures answers { (st : Status) → Shows (state self.old) st → Answers st word.now answer.old answer.new }
         ensures goes_on { (st : Status) → Shows (state self.old) st → Shows (state self.new) (crowd_respond st word.now).0 }
         ensures keeps { (st : Status) → Shows (state self.old) st → Keeps st word.now (state self.old) (state self.new) }
-        ensures same { (n : ℕ) (s : SlotIn) (past : List SlotIn) (b : Box) (away : List Bool) → Shows (state self.old) (FirstDue n (s ∷ past) b away) → (ls : List Line) → decide (FirstDue n (s ∷ past) b away) word.now ≡ Choose ls → take result out.new ≡ slot_answer n past s }
+        ensures same { (n : ℕ) (s : SlotIn) (past : List SlotIn) (b : Box) (away : List Bool) → Shows (state self.old) (FirstDue n (s ∷ past) b away) → (ls : List Line) → decide (FirstDue n (s ∷ past) b away) word.now ≡ Choose ls → take answer.new.len answer.new.bytes ≡ slot_answer n past s }
     {
-        match turn_of(self.due, Kind::of(word)) {
-            Turn::Settings => self.take_settings(word, out),
-            Turn::Slot => self.take_slot(&word[1..], out),
-            Turn::First => self.take_first(&word[1..], out),
-            Turn::Second => self.take_second(&word[1..], out),
-            Turn::Refusal => write_refusal(out, Fault::Malformed),
+        if let Err(fault) = self.take(word, answer) {
+            answer.refuse(fault);
         }
     }
 }

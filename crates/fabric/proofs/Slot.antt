@@ -15,8 +15,10 @@ use Rattle.crossbox.proofs.Runs.{run_like, run_directed, arrived_like, transferr
 use Rattle.crossbox.proofs.Promise.{found_in_run}
 use Rattle.buffer.specs.Lent.{lent_to, beyond}
 use Rattle.words.specs.Lines.{no_line, judge, verdict}
-use Rattle.words.specs.Writing.{overwrite}
-use Rattle.words.specs.Answer.{Departure, Written}
+use Rattle.words.specs.Writing.{Draft, appended, cleared}
+use Rattle.words.specs.Numbers.{answer_kind}
+use Rattle.words.specs.Answer.{leaving_all, flag_bytes}
+use Rattle.words.proofs.Answered.{answer_written}
 use Rattle.ideal.proofs.Loops.{flags_all}
 use Rattle.matching.specs.declared.Found.{Found}
 use Rattle.matching.specs.Table.{Finds}
@@ -37,7 +39,7 @@ use Rattle.switch.proofs.History.{body_new}
 use Rattle.fabric.specs.Real.{Shows, gone, box_after, Runs}
 use Rattle.switch.specs.Taking.{Serves}
 use Rattle.fabric.proofs.History.{found-run, spells_on}
-use Rattle.fabric.proofs.Stages.{Stage, stage_counted, stage_fits, stage_waits, transferred_stage, departed_stage, stage_bytes, brings_fit, bytes_are, departures_written}
+use Rattle.fabric.proofs.Stages.{Stage, stage_counted, stage_fits, stage_waits, transferred_stage, departed_stage, stage_bytes, brings_fit, bytes_are}
 
 -- goodness does not depend on the number of slots
 any_time : (s : State) → Good s → Good (passed s)
@@ -145,11 +147,10 @@ module _ (s : State) (past : List SlotIn) (bytes : List ℕ) (h : Runs s s.lines
         departed_stage (body_in new) s.lines (suc (length (respond.arrived past))) s.slots s₂ (gone s.lines one) second_stage s₃ (suc (length (respond.arrived past))) e₃ like.placed like.order
 
     -- what departs is what departs from the ideal box
-    departures : (out one_out two_out : List ℕ) (at next : ℕ) → Written out one_out at [] [] → two_out ≡ overwrite at (departing_bytes s₂.lines s₂) one_out → next ≡ at + length (departing_bytes s₂.lines s₂) → Written out two_out next (map (λ o. with_body new (departure 256 s.lines o (respond.arrived past) (slot_of (slot_lines s.lines bytes)).arrivals)) (range_with_len 0 s.lines)) []
-    departures out one_out two_out at next w e f =
-        let b = stage_bytes (body_in new) s.lines (suc (length (respond.arrived past))) s.slots s₂ (gone s.lines one) second_stage
-        ∙ bytes_are new (gone s.lines one) (λ o. departure 256 s.lines o (respond.arrived past) (arrivals_of (slot_lines s.lines bytes))) (same-departures 256 s.lines (respond.arrived past) (box_after s.lines (respond.arrived past)) run (arrivals_of (slot_lines s.lines bytes)) (find s.lines one) stable_one) s.lines in
-        departures_written out one_out two_out at next _ w (e ∙ ap (λ (xs : List ℕ). overwrite at xs one_out) b) (f ∙ ap (λ (xs : List ℕ). at + length xs) b)
+    departures : departing_bytes s₂.lines s₂ ≡ leaving_all (map (λ o. with_body new (departure 256 s.lines o (respond.arrived past) (slot_of (slot_lines s.lines bytes)).arrivals)) (range_with_len 0 s.lines))
+    departures =
+        stage_bytes (body_in new) s.lines (suc (length (respond.arrived past))) s.slots s₂ (gone s.lines one) second_stage
+        ∙ bytes_are new (gone s.lines one) (λ o. departure 256 s.lines o (respond.arrived past) (arrivals_of (slot_lines s.lines bytes))) (same-departures 256 s.lines (respond.arrived past) (box_after s.lines (respond.arrived past)) run (arrivals_of (slot_lines s.lines bytes)) (find s.lines one) stable_one) s.lines
 
     module _ (e₄ : s₄ ≡ transfer_all s₃.lines (choice_of r₂.choice) s₃) (f₂ : Finds r₂ s₃.lines three) where
       lines₁ : s₁.lines ≡ s.lines
@@ -218,11 +219,15 @@ module _ (s : State) (past : List SlotIn) (bytes : List ℕ) (h : Runs s s.lines
           (places_kept.arrivals s (slot_lines s.lines bytes) h.good brings p)
 
       -- the slot as a whole
-      pub slot_served : (out one_out two_out written : List ℕ) (at next r : ℕ) (flags : List Bool) → length flags ≡ 32 → ((i : ℕ) → i < 32 → get_or flags i false ≡ (ltb i s.lines && away (slot_lines s.lines bytes) s i)) → Written out one_out at [] [] → two_out ≡ overwrite at (departing_bytes s₂.lines s₂) one_out → next ≡ at + length (departing_bytes s₂.lines s₂) → ((ds : List Departure) → Written out two_out next ds [] → Written out written r ds (take s.lines flags)) → Serves (Shows (passed s₄)) 16448 s.lines past (slot_lines s.lines bytes) (lent_to s.mem) (lent_to s₄.mem) r out written
-      slot_served out one_out two_out written at next r flags l w b e f k =
+      pub slot_served : (start begun departed last : Draft) (flags : List Bool) → length flags ≡ 32 → ((i : ℕ) → i < 32 → get_or flags i false ≡ (ltb i s.lines && away (slot_lines s.lines bytes) s i)) → begun ≡ appended (answer_kind ∷ []) (cleared start) → departed ≡ appended (departing_bytes s₂.lines s₂) begun → last ≡ appended (flag_bytes (take s.lines flags)) departed → Serves (Shows (passed s₄)) 16448 s.lines past (slot_lines s.lines bytes) (lent_to s.mem) (lent_to s₄.mem) start last
+      slot_served start begun departed last flags l w b e k =
+          let told = k ∙ ap (λ (fs : List Bool). appended (flag_bytes fs) departed) (flags_are flags l w)
+          ∙ ap (λ (d : Draft). appended (flag_bytes (map (λ i. rejected 256 s.lines i (respond.arrived past) (slot_of (slot_lines s.lines bytes)).arrivals) (range_with_len 0 s.lines))) d)
+          (e ∙ ap (λ (bs : List ℕ). appended bs begun) departures
+          ∙ ap (λ (d : Draft). appended (leaving_all (map (λ o. with_body new (departure 256 s.lines o (respond.arrived past) (slot_of (slot_lines s.lines bytes)).arrivals)) (range_with_len 0 s.lines))) d) b) in
           record {
             shown = runs_on;
-            answer = subst (λ (fs : List Bool). Written out written r (map (λ o. with_body new (departure 256 s.lines o (respond.arrived past) (slot_of (slot_lines s.lines bytes)).arrivals)) (range_with_len 0 s.lines)) fs) (flags_are flags l w) (k _ (departures out one_out two_out at next b e f));
+            answer = answer_written last start _ _ told;
             left = left;
             places = λ p. ⊎_elim (λ q. inl q)
                 (λ q. inr (record { input = q.input; output = q.output; there = q.there; arrives = q.arrives; taken = sym (away_is q.input q.there) ∙ q.taken; free = q.free; bytes = q.bytes }))

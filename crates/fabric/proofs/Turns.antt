@@ -11,7 +11,7 @@ use Rattle.words.specs.declared.read.Kind.TheVariants.{Settings, Slot, Choice, U
 use Rattle.words.specs.Kind.{kind_of}
 use Rattle.words.specs.Lines.{Line, settings, judge, judged, verdict}
 use Rattle.words.proofs.Scans.{verdict_good}
-use Rattle.words.specs.Writing.{overwrite, refusal_bytes}
+use Rattle.words.specs.Writing.{Draft}
 use Rattle.cioq.specs.State.{State, Good, begun}
 use Rattle.cioq.specs.Arrivals.{slot_lines, lines_or}
 use Rattle.cioq.proofs.Begun.{begun_good, begun_spells, begun_counts}
@@ -52,8 +52,8 @@ judged_lines n bytes ls e =
     ap (λ (o : Option (List Line)). lines_or o) a.read ∙ lines_are
 
 -- a slot whose lines were judged good is served
-pub serves : (s after : State) (n : ℕ) (past : List SlotIn) (ls : List Line) (bytes : List ℕ) (r : ℕ) (out written : List ℕ) → Runs s n past → judge n 64 false bytes ≡ Ok ls → ((past : List SlotIn) → Runs s s.lines past → Serves (Shows after) 16448 s.lines past (slot_lines s.lines bytes) (lent_to s.mem) (lent_to after.mem) r out written) → Serves (Shows after) 16448 n past ls (lent_to s.mem) (lent_to after.mem) r out written
-serves s after n past ls bytes r out written h e f =
-    subst (λ (m : ℕ). judge m 64 false bytes ≡ Ok ls → Serves (Shows after) 16448 m past ls (lent_to s.mem) (lent_to after.mem) r out written) h.lines
-    (λ e'. subst (λ (x : List Line). Serves (Shows after) 16448 s.lines past x (lent_to s.mem) (lent_to after.mem) r out written) (judged_lines s.lines bytes ls e')
+pub serves : (s after : State) (n : ℕ) (past : List SlotIn) (ls : List Line) (bytes : List ℕ) (out written : Draft) → Runs s n past → judge n 64 false bytes ≡ Ok ls → ((past : List SlotIn) → Runs s s.lines past → Serves (Shows after) 16448 s.lines past (slot_lines s.lines bytes) (lent_to s.mem) (lent_to after.mem) out written) → Serves (Shows after) 16448 n past ls (lent_to s.mem) (lent_to after.mem) out written
+serves s after n past ls bytes out written h e f =
+    subst (λ (m : ℕ). judge m 64 false bytes ≡ Ok ls → Serves (Shows after) 16448 m past ls (lent_to s.mem) (lent_to after.mem) out written) h.lines
+    (λ e'. subst (λ (x : List Line). Serves (Shows after) 16448 s.lines past x (lent_to s.mem) (lent_to after.mem) out written) (judged_lines s.lines bytes ls e')
     (f past (subst (λ (m : ℕ). Runs s m past) (sym h.lines) h))) e

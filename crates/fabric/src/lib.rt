@@ -20,7 +20,7 @@ use buffer::Loan;
 use cioq::RealBox;
 use matching::{Firsts, Found, find};
 use switch::Switch;
-use words::{ANSWER, write_byte, write_flags};
+use words::{ANSWER, Answer};
 
 // The real box, and the table in which a choice is sought.
 #[derive(Drop)]
@@ -73,22 +73,23 @@ impl<'a> Fabric<'a> {
         })
     }
 
-    // Serves a slot whose lines have been judged good: writes the answer, and gives its length.
-    fn serve_slot(&mut self, lines: &[u8], out: &mut [u8; 2241]) -> usize
+    // Serves a slot whose lines have been judged good, and writes its answer.
+    fn serve_slot(&mut self, lines: &[u8], answer: &mut Answer)
         requires runs { (past : List SlotIn) × Runs (state self.old.real) (state self.old.real).lines past }
         requires early { (state self.old.real).slots < 2 ^ 32 }
         requires read { Ok tt ≡ verdict (judge (state self.old.real).lines 64 false lines.now) }
-        ensures { (past : List SlotIn) → Runs (state self.old.real) (state self.old.real).lines past → Serves (Shows (state self.new.real)) 16448 (state self.old.real).lines past (slot_lines (state self.old.real).lines lines.now) (lent_to (state self.old.real).mem) (lent_to (state self.new.real).mem) result out.old out.new }
+        ensures { (past : List SlotIn) → Runs (state self.old.real) (state self.old.real).lines past → Serves (Shows (state self.new.real)) 16448 (state self.old.real).lines past (slot_lines (state self.old.real).lines lines.now) (lent_to (state self.old.real).mem) (lent_to (state self.new.real).mem) answer.old answer.new }
     {
+        let inputs = self.real.lines() as usize;
         let turned_away = self.real.arrive(lines);
         let first = choose(&self.real, &mut self.firsts);
         self.real.transfer(&first.choice);
-        let begun = write_byte(out, 0, ANSWER);
-        let left = self.real.depart(out, begun);
+        answer.begin(ANSWER);
+        self.real.depart(answer);
         let second = choose(&self.real, &mut self.firsts);
         self.real.transfer(&second.choice);
         self.real.pass();
-        write_flags(out, left, self.real.lines(), &turned_away)
+        answer.push_flags(&turned_away[..inputs]);
     }
 }
 
@@ -111,8 +112,8 @@ impl Switch for Fabric<'_> {
         self.real.begin(lines);
     }
 
-    fn slot(&mut self, lines: &[u8], out: &mut [u8; 2241]) -> usize {
-        self.serve_slot(lines, out)
+    fn slot(&mut self, lines: &[u8], answer: &mut Answer) {
+        self.serve_slot(lines, answer);
     }
 }
 

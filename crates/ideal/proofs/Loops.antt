@@ -1,19 +1,17 @@
 -- One turn of each loop over a slot's inputs and outputs, in the shapes in which the code has it.
-use Rattle.std.proofs.Common.{◌≡◌, ℕ, ◌+◌, ◌<◌, ◌≤◌, Bool, false, cond, eqb, List, [], ◌∷◌, ◌++◌, map, length, get_or, take, set, Some, None, sym, refl, ap, ◌∙◌, subst, inl, inr, add-one, arith}
+use Rattle.std.proofs.Common.{◌≡◌, ℕ, ◌+◌, ◌<◌, ◌≤◌, Bool, false, List, [], ◌∷◌, ◌++◌, map, length, get_or, take, set, sym, refl, ap, ◌∙◌, subst, inl, inr, add-one, arith}
 use Rattle.std.proofs.lemmas.List.{get_or-set_same, get_or-set_other, length-set, length-take-le, get_or-take}
 use Rattle.std.specs.List.{range_with_len}
 use Rattle.std.proofs.lemmas.List.FromFn.{fill_by_all}
-use Rattle.std.proofs.lemmas.Bool.{cases_eq, ne_eqb}
+use Rattle.std.proofs.lemmas.Bool.{cases_eq}
 use Rattle.crossbox.specs.declared.Arrival.{Arrival}
-use Rattle.crossbox.specs.declared.Cell.{Cell}
-use Rattle.buffer.specs.Head.{cell_of}
-use Rattle.buffer.specs.Memory.{Mem, row_length, head_at, place_at, remove}
+use Rattle.buffer.specs.Memory.{Mem}
 use Rattle.words.specs.Lines.{Line, no_line}
-use Rattle.words.specs.Answer.{Departure, Written, leaving}
-use Rattle.words.specs.Writing.{overwrite}
-use Rattle.words.proofs.Answered.{answer-departure}
+use Rattle.words.specs.Answer.{Departure, leaving, leaving_all}
+use Rattle.words.specs.Writing.{Draft, appended}
+use Rattle.words.proofs.Answered.{departure_more, no_departures}
 use Rattle.ideal.specs.State.{State, Good}
-use Rattle.ideal.specs.Steps.{Brings, turned_away, admit_in, admit_one, admit_all, admitted, away, departure_of, depart_one, departing, depart_all, departed, departures, served}
+use Rattle.ideal.specs.Steps.{Brings, turned_away, admit_in, admit_one, admit_all, admitted, away, departure_of, depart_one, departing, depart_all, departed, departures}
 use Rattle.ideal.proofs.Good.{with, Bring, bring_at, admit_all_good, depart_all_good}
 
 -- nothing admitted yet
@@ -56,29 +54,14 @@ flags_more f flags k r l h e inv = (
       ],
 )
 
-module _ (s : State) (g : Good s) (o : ℕ) (h : o < s.lines) (some : 0 < row_length s.mem o) where
-  busy : eqb (row_length s.mem o) 0 ≡ false
-  busy = ne_eqb (row_length s.mem o) 0 (λ e. omega arith)
-
-  -- what leaves, as the code reads it
-  pub departs-first : (c : Cell) (body : List ℕ) → c ≡ cell_of (head_at s.mem (place_at o 0 s.mem)) → body ≡ get_or s.mem.cells (place_at o 0 s.mem) [] → departure_of o s.mem ≡ Some (c, body)
-  departs-first c body e f =
-      ap (λ (w : Bool). cond w None (Some (cell_of (head_at s.mem (place_at o 0 s.mem)), get_or s.mem.cells (place_at o 0 s.mem) []))) busy
-      ∙ (ap (λ (z : Cell). Some (z, get_or s.mem.cells (place_at o 0 s.mem) [])) (sym e)
-      ∙ ap (λ (z : List ℕ). Some (c, z)) (sym f))
-
-  pub departed-first : (m : Mem) → m ≡ remove o 0 s.mem → with s m ≡ departing o s
-  departed-first m e =
-      ap (λ (z : Mem). with s z) e ∙ ap (λ (w : Bool). with s (cond w s.mem (remove o 0 s.mem))) (sym busy)
-
 -- nothing has left yet
 pub departed-none : (s : State) → s ≡ departed 0 s
 unfolding depart_all
 departed-none s = refl
 
-pub departures-none : (m : Mem) → [] ≡ departures 0 m
+pub departures-none : (m : Mem) (w : Draft) → w ≡ appended (leaving_all (departures 0 m)) w
 unfolding departures
-departures-none m = refl
+departures-none m w = no_departures w
 
 depart-next : (k : ℕ) (m : Mem) → depart_all (k + 1) m ≡ depart_one k (depart_all k m)
 unfolding depart_all
@@ -93,11 +76,12 @@ module _ (s : State) (k : ℕ) (now : State) (inv : now ≡ departed k s) where
   departed-more after f =
       f ∙ (ap (λ (z : State). departing k z) inv ∙ ap (λ (m : Mem). with s m) (sym (depart-next k s.mem)))
 
-  pub departures-more : (start out last : List ℕ) (at next : ℕ) → Written start out at (departures k s.mem) [] → last ≡ overwrite at (leaving (departure_of k now.mem)) out → next ≡ at + length (leaving (departure_of k now.mem)) → Written start last next (departures (k + 1) s.mem) []
-  departures-more start out last at next w e f =
+  pub departures-more : (w before last : Draft) → before ≡ appended (leaving_all (departures k s.mem)) w →
+      last ≡ appended (leaving (departure_of k now.mem)) before → last ≡ appended (leaving_all (departures (k + 1) s.mem)) w
+  departures-more w before last e f =
       let d = ap (λ (z : State). departure_of k z.mem) inv in
-      subst (λ (ds : List Departure). Written start last next ds []) (sym (departures-next k s.mem))
-      (answer-departure start out last at next (departures k s.mem) (departure_of k (depart_all k s.mem)) w (e ∙ ap (λ (x : Departure). overwrite at (leaving x) out) d) (f ∙ ap (λ (x : Departure). at + length (leaving x)) d))
+      departure_more w before last (departures k s.mem) (departure_of k (depart_all k s.mem)) e (f ∙ ap (λ (x : Departure). appended (leaving x) before) d)
+      ∙ ap (λ (ds : List Departure). appended (leaving_all ds) w) (sym (departures-next k s.mem))
 
   pub good_departed : Good s → k ≤ s.lines → Good now
   good_departed g h = subst (λ (z : State). Good z) (sym inv) (depart_all_good s k g h)
@@ -106,8 +90,3 @@ module _ (s : State) (k : ℕ) (now : State) (inv : now ≡ departed k s) where
 pub flags_all : (f : ℕ → Bool) (flags : List Bool) (n : ℕ) → length flags ≡ 32 → n ≤ 32 → ((i : ℕ) → i < n → get_or flags i false ≡ f i) → take n flags ≡ map f (range_with_len 0 n)
 flags_all f flags n l h e =
     fill_by_all f (take n flags) n false (length-take-le n flags (omega arith)) (λ k j. get_or-take n flags k false j ∙ e k j)
-
--- the steps of a slot, one after the other
-pub slot_after : (s one two : State) (ls : List Line) → one ≡ admitted s.lines ls s → two ≡ departed one.lines one → record { mem = two.mem; lines = two.lines; slots = two.slots + 1 } ≡ served ls s
-slot_after s one two ls e f =
-    ap (λ (z : State). record { mem = z.mem; lines = z.lines; slots = z.slots + 1 }) (f ∙ ap (λ (z : State). departed z.lines z) e)

@@ -3,15 +3,17 @@
 
 ghost use Rattle.std.specs.Prelude.{◌≡◌, ℕ, ◌+◌, ◌*◌, ◌^◌, ◌<◌, ◌≤◌, true, false, List, [], length, MatchOption, slice_index_or};
 ghost use Rattle.buffer.specs.Memory.{lent_by, enough, fresh};
-ghost use Rattle.words.specs.Writing.{overwrite};
+ghost use Rattle.words.specs.Writing.{appended};
 ghost use Rattle.ideal.specs.Kept.{SlotStaysWithin, SettingsStayWithin, PlacesKept};
 ghost use Rattle.ideal.specs.State.{State, state, Good, unset, begun};
 ghost use Rattle.ideal.specs.Steps.{Brings, Reads, lines_of, admit_one, admitted, away, turned_away, departing, departed, departure_of, departures, served, leavers, rejects};
-ghost use Rattle.words.specs.Answer.{Departure, Written, leaving};
+ghost use Rattle.words.specs.Answer.{Written, leaving, leaving_all};
 
 use buffer::{Loan, Memory};
 use crossbox::{Arrival, Cell};
-use words::{ANSWER, BODY, NONE, body_of, read_entry, write_byte, write_departure, write_flags};
+use words::{
+    ANSWER, ANSWER_BYTES, Answer, BODY, DEPARTURE_BYTES, MOST_LINES, NONE, body_of, read_entry,
+};
 
 // How many cells a queue holds.
 pub const ROOM: usize = 256;
@@ -22,9 +24,10 @@ pub const ENTRIES: usize = 32 * ROOM;
 // Places for each line: as many as its queue holds, and one more.
 const PLACES_A_LINE: u16 = 257;
 
+// `Good` stands in clauses: a ghost field would have to hold amid a put too, and a struct that holds a `&mut` has no model.
 #[derive(Drop)]
 pub struct IdealBox<'a> {
-    memory: Memory<'a, 32, 256>,
+    memory: Memory<'a, MOST_LINES, ROOM>,
     lines: u8,
     now: u64,
 }
@@ -92,14 +95,14 @@ impl<'a> IdealBox<'a> {
     }
 
     // Admits what the lines of a slot bring; gives for each input whether its cell was turned away.
-    fn admit_all(&mut self, bytes: &[u8]) -> [bool; 32]
+    fn admit_all(&mut self, bytes: &[u8]) -> [bool; MOST_LINES]
         requires good { Good (state self.now) }
         requires early { (state self.now).slots < 2 ^ 32 }
         requires read { Reads (state self.now).lines bytes.now }
         ensures after { state self.exit.now ≡ admitted (state self.entry.now).lines (lines_of (state self.entry.now).lines bytes.now) (state self.entry.now) }
         ensures away { (i : ℕ) → i < (state self.entry.now).lines → slice_index_or result i false ≡ away (state self.entry.now).slots (lines_of (state self.entry.now).lines bytes.now) (state self.entry.now).mem i }
     {
-        let mut turned_away = [false; 32];
+        let mut turned_away = [false; MOST_LINES];
         let mut rest = bytes;
         for input in 0..self.lines {
             let Some(entry) = read_entry(rest, BODY) else {
@@ -111,52 +114,50 @@ impl<'a> IdealBox<'a> {
         turned_away
     }
 
-    // Writes what leaves by an output, and lets it go; gives the place behind what was written.
-    fn depart(&mut self, output: u8, out: &mut [u8; 2241], at: usize) -> usize
+    // Writes what leaves by an output, and lets it go.
+    fn depart(&mut self, output: u8, answer: &mut Answer)
         requires good { Good (state self.now) }
-        requires within { (output < (state self.now).lines) × (at + 69 ≤ 2241) }
+        requires there { output < (state self.now).lines }
+        requires room { answer.old.len + DEPARTURE_BYTES ≤ ANSWER_BYTES }
         ensures after { state self.exit.now ≡ departing output (state self.entry.now) }
-        ensures bytes { out.new ≡ overwrite at (leaving (departure_of output (state self.entry.now).mem)) out.old }
-        ensures next { result ≡ at + length (leaving (departure_of output (state self.entry.now).mem)) }
-        ensures short { result ≤ at + 69 }
+        ensures answer { answer.new ≡ appended (leaving (departure_of output (state self.entry.now).mem)) answer.old }
+        ensures short { answer.new.len ≤ answer.old.len + DEPARTURE_BYTES }
     {
         if self.memory.len(output) == 0 {
-            return write_byte(out, at, NONE);
+            answer.push(NONE);
+            return;
         }
         let cell = self.memory.cell(output, 0);
-        let next = write_departure(out, at, cell, self.memory.body(output, 0));
+        answer.push_departure(cell, self.memory.body(output, 0));
         self.memory.remove(output, 0);
-        next
     }
 
-    // Writes what leaves by each output, and lets it go; gives the place behind what was written.
-    fn depart_all(&mut self, out: &mut [u8; 2241], at: usize) -> usize
+    // Writes what leaves by each output, and lets it go.
+    fn depart_all(&mut self, answer: &mut Answer)
         requires good { Good (state self.now) }
-        requires within { at ≤ 1 }
+        requires room { answer.old.len + DEPARTURE_BYTES * (state self.now).lines ≤ ANSWER_BYTES }
         ensures after { state self.exit.now ≡ departed (state self.entry.now).lines (state self.entry.now) }
-        ensures bytes { (start : List ℕ) → Written start out.old at [] [] → Written start out.new result (departures (state self.entry.now).lines (state self.entry.now).mem) [] }
-        ensures short { result ≤ at + 69 * (state self.entry.now).lines }
+        ensures answer { answer.new ≡ appended (leaving_all (departures (state self.entry.now).lines (state self.entry.now).mem)) answer.old }
+        ensures short { answer.new.len ≤ answer.old.len + DEPARTURE_BYTES * (state self.entry.now).lines }
     {
-        let mut next = at;
         for output in 0..self.lines {
-            next = self.depart(output, out, next);
+            self.depart(output, answer);
         }
-        next
     }
 
-    // Serves a slot whose lines have been judged good: writes the answer, and gives its length.
-    pub fn slot(&mut self, lines: &[u8], out: &mut [u8; 2241]) -> usize
+    // Serves a slot whose lines have been judged good, and writes its answer.
+    pub fn slot(&mut self, lines: &[u8], answer: &mut Answer)
         requires good { Good (state self.now) }
         requires early { (state self.now).slots < 2 ^ 32 }
         requires read { Reads (state self.now).lines lines.now }
         ensures after { state self.exit.now ≡ served (lines_of (state self.entry.now).lines lines.now) (state self.entry.now) }
-        ensures answer { Written out.old out.new result (leavers (lines_of (state self.entry.now).lines lines.now) (state self.entry.now)) (rejects (lines_of (state self.entry.now).lines lines.now) (state self.entry.now)) }
+        ensures answer { Written answer.old.bytes answer.new.bytes answer.new.len (leavers (lines_of (state self.entry.now).lines lines.now) (state self.entry.now)) (rejects (lines_of (state self.entry.now).lines lines.now) (state self.entry.now)) }
     {
         let turned_away = self.admit_all(lines);
-        let begun = write_byte(out, 0, ANSWER);
-        let left = self.depart_all(out, begun);
+        answer.begin(ANSWER);
+        self.depart_all(answer);
         self.now += 1;
-        write_flags(out, left, self.lines, &turned_away)
+        answer.push_flags(&turned_away[..self.lines as usize]);
     }
 }
 

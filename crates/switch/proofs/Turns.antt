@@ -18,7 +18,7 @@ use Rattle.words.specs.declared.read.Kind.{Kind}
 use Rattle.words.specs.declared.read.Kind.TheVariants.{Settings, Slot, Choice, Unknown}
 use Rattle.words.specs.Kind.{kind_of}
 use Rattle.words.specs.Lines.{Line, no_line, all_fit, settings, judge, judged, verdict}
-use Rattle.words.specs.Writing.{overwrite, refusal_bytes}
+use Rattle.words.specs.Writing.{Draft}
 use Rattle.words.specs.Answer.{Departure, Written, answer_bytes}
 use Rattle.words.proofs.Scans.{verdict_good}
 use Rattle.words.proofs.Overwrites.{overwrite_front, overwrite-behind}
@@ -134,14 +134,14 @@ module _ (s : State) (past : List SlotIn) (bytes : List ℕ) (h : Runs s s.lines
       }
 
 -- a slot is served
-served_on : (s after : State) (past : List SlotIn) (bytes : List ℕ) (r : ℕ) (out written : List ℕ) → Runs s s.lines past → Reads s.lines bytes → after ≡ served (steps.lines_of s.lines bytes) s → Written out written r (leavers (steps.lines_of s.lines bytes) s) (rejects (steps.lines_of s.lines bytes) s) → Serves (Shows after) 256 s.lines past (steps.lines_of s.lines bytes) (lent_to s.mem) (lent_to after.mem) r out written
-served_on s after past bytes r out written h read f w =
+served_on : (s after : State) (past : List SlotIn) (bytes : List ℕ) (out written : Draft) → Runs s s.lines past → Reads s.lines bytes → after ≡ served (steps.lines_of s.lines bytes) s → Written out.bytes written.bytes written.len (leavers (steps.lines_of s.lines bytes) s) (rejects (steps.lines_of s.lines bytes) s) → Serves (Shows after) 256 s.lines past (steps.lines_of s.lines bytes) (lent_to s.mem) (lent_to after.mem) out written
+served_on s after past bytes out written h read f w =
     let ls = steps.lines_of s.lines bytes in
     let m = ap (λ (z : State). lent_to z.mem) f in
     record {
       shown = subst (λ (z : State). Runs z s.lines (slot_of ls ∷ past)) (sym f) (served_runs s past bytes h read);
-      answer = subst (λ (ds : List Departure). Written out written r ds (map (λ i. rejected 256 s.lines i (arrived past) (slot_of ls).arrivals) (range_with_len 0 s.lines))) (leavers_are s past bytes h read)
-          (subst (λ (fs : List Bool). Written out written r (leavers ls s) fs) (rejects_are s past bytes h read) w);
+      answer = subst (λ (ds : List Departure). Written out.bytes written.bytes written.len ds (map (λ i. rejected 256 s.lines i (arrived past) (slot_of ls).arrivals) (range_with_len 0 s.lines))) (leavers_are s past bytes h read)
+          (subst (λ (fs : List Bool). Written out.bytes written.bytes written.len (leavers ls s) fs) (rejects_are s past bytes h read) w);
       left = ap (λ (l : Lent). beyond (257 * s.lines) (256 * s.lines) l) m ∙ (slot_stays s bytes h.good read).0;
       places = λ p. ⊎_elim
           (λ q. inl (ap (λ (l : Lent). get_or l.cells p []) m ∙ q))
@@ -164,12 +164,12 @@ pub reads_judged : (n : ℕ) (bytes : List ℕ) (ls : List Line) → judge n 64 
 reads_judged n bytes ls e = (judged_read n bytes ls e).0
 
 -- a slot whose lines were judged good is served
-pub serves : (s after : State) (n : ℕ) (past : List SlotIn) (ls : List Line) (bytes : List ℕ) (r : ℕ) (out written : List ℕ) → Runs s n past → judge n 64 false bytes ≡ Ok ls → after ≡ served (steps.lines_of s.lines bytes) s → Written out written r (leavers (steps.lines_of s.lines bytes) s) (rejects (steps.lines_of s.lines bytes) s) → Serves (Shows after) 256 n past ls (lent_to s.mem) (lent_to after.mem) r out written
-serves s after n past ls bytes r out written h e f w =
-    subst (λ (m : ℕ). judge m 64 false bytes ≡ Ok ls → Serves (Shows after) 256 m past ls (lent_to s.mem) (lent_to after.mem) r out written) h.lines
+pub serves : (s after : State) (n : ℕ) (past : List SlotIn) (ls : List Line) (bytes : List ℕ) (out written : Draft) → Runs s n past → judge n 64 false bytes ≡ Ok ls → after ≡ served (steps.lines_of s.lines bytes) s → Written out.bytes written.bytes written.len (leavers (steps.lines_of s.lines bytes) s) (rejects (steps.lines_of s.lines bytes) s) → Serves (Shows after) 256 n past ls (lent_to s.mem) (lent_to after.mem) out written
+serves s after n past ls bytes out written h e f w =
+    subst (λ (m : ℕ). judge m 64 false bytes ≡ Ok ls → Serves (Shows after) 256 m past ls (lent_to s.mem) (lent_to after.mem) out written) h.lines
     (λ e'. let j = judged_read s.lines bytes ls e' in
-    subst (λ (x : List Line). Serves (Shows after) 256 s.lines past x (lent_to s.mem) (lent_to after.mem) r out written) j.1
-    (served_on s after past bytes r out written (subst (λ (m : ℕ). Runs s m past) (sym h.lines) h) j.0 f w)) e
+    subst (λ (x : List Line). Serves (Shows after) 256 s.lines past x (lent_to s.mem) (lent_to after.mem) out written) j.1
+    (served_on s after past bytes out written (subst (λ (m : ℕ). Runs s m past) (sym h.lines) h) j.0 f w)) e
 
 -- the number of lines that settings give
 pub settings_range : (word : List ℕ) (n : ℕ) → settings word ≡ Ok n → (0 < n) × (n ≤ 32)

@@ -6,6 +6,7 @@ use Rattle.buffer.specs.Head.{vacant}
 use Rattle.buffer.specs.Memory.{Lent}
 use Rattle.buffer.specs.Lent.{beyond}
 use Rattle.words.specs.Lines.{Line}
+use Rattle.words.specs.Writing.{Draft}
 use Rattle.words.specs.declared.fault.Fault.{Fault}
 use Rattle.switch.specs.declared.Step.{Step}
 use Rattle.switch.specs.declared.Step.TheVariants as step
@@ -13,11 +14,11 @@ use Rattle.switch.specs.Respond.Status.{Unset, Running}
 use Rattle.switch.specs.Respond.Verdict.{Refuse, Take}
 use Rattle.switch.specs.Respond.{Status, SlotIn, arrived, slot_of, decide, respond}
 
--- the first r bytes of a buffer are the answer, and the rest of the buffer is as it was
-pub record Answers (st : Status) (word : List ℕ) (r : ℕ) (before after : List ℕ) : Type 0 where
-  pub size : r ≡ length (respond st word).1
-  pub bytes : take r after ≡ (respond st word).1
-  pub rest : drop r after ≡ drop r before
+-- what is written is the answer, and the rest of the buffer is as it was
+pub record Answers (st : Status) (word : List ℕ) (before after : Draft) : Type 0 where
+  pub size : after.len ≡ length (respond st word).1
+  pub bytes : take after.len after.bytes ≡ (respond st word).1
+  pub rest : drop after.len after.bytes ≡ drop after.len before.bytes
 
 -- the number of lines that a status has
 abbrev pub lines_of : Status → ℕ

@@ -9,6 +9,7 @@ use Rattle.buffer.specs.Lent.{beyond}
 use Rattle.words.specs.declared.fault.Fault.{Fault}
 use Rattle.words.specs.Lines.{Line}
 use Rattle.words.specs.Answer.{Written}
+use Rattle.words.specs.Writing.{Draft, cleared}
 use Rattle.switch.specs.Respond.{Status, Verdict, SlotIn, arrived, slot_of, with_body}
 use Rattle.switch.specs.Respond.Status.{Unset, Running}
 use Rattle.switch.specs.Respond.Verdict.{Refuse, Begin, Take}
@@ -31,19 +32,19 @@ pub record PutIn (n : ℕ) (past : List SlotIn) (ls : List Line) (before after :
 
 -- a slot was served: the box runs on with it, its answer is the ideal box's, what lies beyond the settings is as it was, and so are
 -- a place's bytes, unless a cell is put there
-pub record Serves (shows : Status → Type 0) (width n : ℕ) (past : List SlotIn) (ls : List Line) (before after : Lent) (r : ℕ) (out written : List ℕ) : Type 0 where
+pub record Serves (shows : Status → Type 0) (width n : ℕ) (past : List SlotIn) (ls : List Line) (before after : Lent) (out written : Draft) : Type 0 where
   pub shown : shows (Running n (slot_of ls ∷ past))
-  pub answer : Written out written r
+  pub answer : Written out.bytes written.bytes written.len
       (map (λ o. with_body (slot_of ls ∷ past) (departure 256 n o (arrived past) (slot_of ls).arrivals)) (range_with_len 0 n))
       (map (λ i. rejected 256 n i (arrived past) (slot_of ls).arrivals) (range_with_len 0 n))
   pub left : beyond (257 * n) (width * n) after ≡ beyond (257 * n) (width * n) before
   pub places : (p : ℕ) → (slice_index_or after.cells p [] ≡ slice_index_or before.cells p []) ⊎ PutIn n past ls before after p
 
--- what was decided is done: a refusal gives its fault and changes nothing; else the length of the answer is given
-abbrev pub Takes : {S : Type 0} → (S → Status → Type 0) → (S → Lent) → ℕ → Status → S → S → Result ℕ Fault → List ℕ → List ℕ → Verdict → Type 0
+-- what was decided is done: a refusal gives its fault and changes nothing, settings have no answer, and a slot is served
+abbrev pub Takes : {S : Type 0} → (S → Status → Type 0) → (S → Lent) → ℕ → Status → S → S → Result (Unit {0}) Fault → Draft → Draft → Verdict → Type 0
 Takes shows lent width st s after r out written (Refuse fault) = (r ≡ Err fault) × (after ≡ s) × (written ≡ out)
 Takes shows lent width st s after r out written (Begin n) =
-    (r ≡ Ok 0) × Begins (shows after) width n (lent s) (lent after) × (written ≡ out)
+    (r ≡ Ok tt) × Begins (shows after) width n (lent s) (lent after) × (written ≡ cleared out)
 Takes shows lent width Unset s after r out written (Take ls) = ⊥
 Takes shows lent width (Running n past) s after r out written (Take ls) =
-    (size : ℕ) × (r ≡ Ok size) × Serves (shows after) width n past ls (lent s) (lent after) size out written
+    (r ≡ Ok tt) × Serves (shows after) width n past ls (lent s) (lent after) out written

@@ -9,6 +9,7 @@ ghost use Rattle.switch.specs.Best.{Shows};
 use crate::Switch;
 use buffer::Loan;
 use ideal::IdealBox;
+use words::Answer;
 
 // An ideal box over what the caller lends, whatever that holds; None where it is too little.
 pub fn best_box(loan: Loan<'_>) -> Option<IdealBox<'_>>
@@ -36,7 +37,7 @@ impl Switch for IdealBox<'_> {
         IdealBox::begin(self, lines);
     }
 
-    fn slot(&mut self, lines: &[u8], out: &mut [u8; 2241]) -> usize {
-        IdealBox::slot(self, lines, out)
+    fn slot(&mut self, lines: &[u8], answer: &mut Answer) {
+        IdealBox::slot(self, lines, answer);
     }
 }

@@ -12,10 +12,7 @@ ghost use Rattle.switch.specs.Taking.{Begins, Serves, Takes};
 mod best;
 
 pub use best::best_box;
-use words::{BODY, Fault, Kind, judge_lines, read_settings, write_refusal};
-
-// How many slots a box takes after its settings.
-const SLOT_LIMIT: u64 = 4294967296;
+use words::{Answer, BODY, Fault, Kind, SLOT_LIMIT, judge_lines, read_settings};
 
 // What a box is ready for.
 #[derive(Clone, Copy)]
@@ -52,21 +49,20 @@ pub trait Switch {
         requires there { (0 < lines) × (lines ≤ 32) }
         ensures { Begins (shows self.new) (width self.old) lines (lent self.old) (lent self.new) };
 
-    // Serves a slot whose lines have been judged good: writes the answer, and gives its length.
-    fn slot(&mut self, lines: &[u8], out: &mut [u8; 2241]) -> usize
+    // Serves a slot whose lines have been judged good, and writes its answer.
+    fn slot(&mut self, lines: &[u8], answer: &mut Answer)
         requires { (n : ℕ) × (past : List SlotIn) × (ls : List Line) × shows self.old (Running n past) × (length past < 2 ^ 32) × (judge n 64 false lines.now ≡ Ok ls) }
-        ensures { (n : ℕ) (past : List SlotIn) (ls : List Line) → shows self.old (Running n past) → judge n 64 false lines.now ≡ Ok ls → Serves (shows self.new) (width self.old) n past ls (lent self.old) (lent self.new) result out.old out.new };
+        ensures { (n : ℕ) (past : List SlotIn) (ls : List Line) → shows self.old (Running n past) → judge n 64 false lines.now ≡ Ok ls → Serves (shows self.new) (width self.old) n past ls (lent self.old) (lent self.new) answer.old answer.new };
 
-    // Takes a word; writes the answer to the front of the buffer, and gives its length.
-    final fn answer(&mut self, word: &[u8], out: &mut [u8; 2241]) -> usize
+    // Takes a word, and writes its answer.
+    final fn answer(&mut self, word: &[u8], answer: &mut Answer)
         requires { (st : Status) × shows self.old st }
-        ensures answers { (st : Status) → shows self.old st → Answers st word.now result out.old out.new }
+        ensures answers { (st : Status) → shows self.old st → Answers st word.now answer.old answer.new }
         ensures goes_on { (st : Status) → shows self.old st → shows self.new (respond st word.now).0 }
         ensures keeps { (st : Status) → shows self.old st → Keeps (width self.old) st word.now (lent self.old) (lent self.new) }
     {
-        match take(self, word, out) {
-            Ok(size) => size,
-            Err(fault) => write_refusal(out, fault),
+        if let Err(fault) = take(self, word, answer) {
+            answer.refuse(fault);
         }
     }
 }
@@ -85,13 +81,13 @@ fn ready_for<S: Switch>(switch: &S) -> Step
 }
 
 // Takes a word; a refusal is left to be written.
-fn take<S: Switch>(switch: &mut S, word: &[u8], out: &mut [u8; 2241]) -> Result<usize, Fault>
+fn take<S: Switch>(switch: &mut S, word: &[u8], answer: &mut Answer) -> Result<(), Fault>
     requires { (st : Status) × S.shows switch.old st }
-    ensures { (st : Status) → S.shows switch.old st → Takes S.shows S.lent (S.width switch.old) st switch.old switch.new result out.old out.new (decide st word.now) }
+    ensures { (st : Status) → S.shows switch.old st → Takes S.shows S.lent (S.width switch.old) st switch.old switch.new result answer.old answer.new (decide st word.now) }
 {
     match (ready_for(switch), Kind::of(word)) {
-        (_, Kind::Settings) => take_settings(switch, word),
-        (Step::Slot, Kind::Slot) => take_slot(switch, &word[1..], out),
+        (_, Kind::Settings) => take_settings(switch, word, answer),
+        (Step::Slot, Kind::Slot) => take_slot(switch, &word[1..], answer),
         (Step::Unset, Kind::Slot) => Err(Fault::Malformed),
         (_, Kind::Choice) => Err(Fault::Malformed),
         (_, Kind::Unknown) => Err(Fault::Malformed),
@@ -99,21 +95,23 @@ fn take<S: Switch>(switch: &mut S, word: &[u8], out: &mut [u8; 2241]) -> Result<
 }
 
 // Takes a settings word.
-fn take_settings<S: Switch>(switch: &mut S, word: &[u8]) -> Result<usize, Fault>
+fn take_settings<S: Switch>(switch: &mut S, word: &[u8], answer: &mut Answer) -> Result<(), Fault>
     requires { (st : Status) × S.shows switch.old st }
-    ensures { (st : Status) (out : List ℕ) → Takes S.shows S.lent (S.width switch.old) st switch.old switch.new result out out (settings_verdict (settings word.now)) }
+    ensures { (st : Status) → Takes S.shows S.lent (S.width switch.old) st switch.old switch.new result answer.old answer.new (settings_verdict (settings word.now)) }
 {
     let lines = read_settings(word)?;
     switch.begin(lines);
-    Ok(0)
+    answer.clear();
+    Ok(())
 }
 
 // Takes the lines of a slot word.
-fn take_slot<S: Switch>(switch: &mut S, lines: &[u8], out: &mut [u8; 2241]) -> Result<usize, Fault>
+fn take_slot<S: Switch>(switch: &mut S, lines: &[u8], answer: &mut Answer) -> Result<(), Fault>
     requires { (n : ℕ) × (past : List SlotIn) × S.shows switch.old (Running n past) }
-    ensures { (n : ℕ) (past : List SlotIn) → S.shows switch.old (Running n past) → Takes S.shows S.lent (S.width switch.old) (Running n past) switch.old switch.new result out.old out.new (slot_verdict (judge n 64 (nat_le 4294967296 (length past)) lines.now)) }
+    ensures { (n : ℕ) (past : List SlotIn) → S.shows switch.old (Running n past) → Takes S.shows S.lent (S.width switch.old) (Running n past) switch.old switch.new result answer.old answer.new (slot_verdict (judge n 64 (nat_le 4294967296 (length past)) lines.now)) }
 {
     let late = switch.slots() >= SLOT_LIMIT;
     judge_lines(switch.lines(), BODY, late, lines)?;
-    Ok(switch.slot(lines, out))
+    switch.slot(lines, answer);
+    Ok(())
 }

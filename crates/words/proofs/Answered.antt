@@ -1,13 +1,13 @@
 -- An answer's bytes: how long they are, one more at the end, and that they tell what was answered.
-use Rattle.std.proofs.Common.{◌≡◌, ℕ, suc, ◌+◌, ◌*◌, ◌/◌, ◌%◌, ◌^◌, ◌<◌, ◌≤◌, Bool, true, false, cond, eqb, List, [], ◌∷◌, ◌++◌, length, get_or, take, drop, Some, None, Option, sym, refl, ap, ◌∙◌, subst, arith}
+use Rattle.std.proofs.Common.{◌≡◌, ℕ, suc, ◌+◌, ◌*◌, ◌/◌, ◌%◌, ◌^◌, ◌<◌, ◌≤◌, Bool, true, false, cond, eqb, List, [], ◌∷◌, ◌++◌, length, get_or, take, drop, Some, None, Option, sym, refl, ap, ◌∙◌, zero-add, arith}
 use native.Mathlib.Nat.{div-div-eq-div-mul}
 use mir.Val.{bool_byte}
 use Rattle.std.proofs.lemmas.List.{append_assoc, append-nil, length-append, take_at, drop_at, take_more}
 use Rattle.std.proofs.lemmas.Bool.{ne_eqb, le-ltb}
 use Rattle.crossbox.specs.declared.Cell.{Cell}
-use Rattle.words.proofs.Overwrites.{written_then, overwrite_front, overwrite-behind}
+use Rattle.words.proofs.Overwrites.{appended_then, appended-none, overwrite_front, overwrite-behind}
 use Rattle.words.specs.Numbers.{answer_kind}
-use Rattle.words.specs.Writing.{overwrite}
+use Rattle.words.specs.Writing.{Draft, appended, cleared}
 use Rattle.words.specs.Answer.{Departure, Written, leaving, leaving_all, flag_bytes, answer_bytes, read_departure, departure_before, departure_then, read_departures, flag_before, read_flags, beside, flags_behind, read_answer, Leaves, AllLeave, AnswerIsRead}
 
 -- one more departure behind the others
@@ -42,60 +42,42 @@ leaving_all-length o (d ∷ ds) h =
     let both = length-append (leaving d) (leaving_all ds) in
     omega arith
 
--- an answer in the making: its kind, then departure after departure, then flag after flag
-pub answer_begins : (start out : List ℕ) (at : ℕ) →
-    out ≡ overwrite 0 (answer_kind ∷ []) start → at ≡ 0 + 1 → Written start out at [] []
-unfolding leaving_all flag_bytes
-answer_begins start out at p e = record { bytes = p; next = e }
-
-no_flags : (ds : List Departure) → answer_bytes ds [] ≡ answer_kind ∷ leaving_all ds
-unfolding flag_bytes
-no_flags ds = ap (λ (xs : List ℕ). answer_kind ∷ xs) (append-nil (leaving_all ds))
-
-one-departure : (ds : List Departure) (d : Departure) → answer_bytes ds [] ++ leaving d ≡ answer_bytes (ds ++ (d ∷ [])) []
-one-departure ds d =
-    ap (λ (xs : List ℕ). xs ++ leaving d) (no_flags ds)
-    ∙ ap (λ (xs : List ℕ). answer_kind ∷ xs) (sym (leaving_push ds d))
-    ∙ sym (no_flags (ds ++ (d ∷ [])))
-
-one_flag : (ds : List Departure) (flags : List Bool) (away : Bool) →
-    answer_bytes ds flags ++ (cond away 1 0 ∷ []) ≡ answer_bytes ds (flags ++ (away ∷ []))
-one_flag ds flags away =
-    ap (λ (xs : List ℕ). answer_kind ∷ xs)
-    (append_assoc (leaving_all ds) (flag_bytes flags) (cond away 1 0 ∷ [])
-    ∙ ap (λ (xs : List ℕ). leaving_all ds ++ xs) (sym (flags_push flags away)))
-
-module _ (start out last : List ℕ) (at next : ℕ) where
-  written_more : (a b whole : List ℕ) → out ≡ overwrite 0 a start → at ≡ length a →
-      last ≡ overwrite at b out → next ≡ at + length b → a ++ b ≡ whole →
-      (last ≡ overwrite 0 whole start) × (next ≡ length whole)
-  written_more a b whole p e q f w =
-      let z : at ≡ 0 + length a = omega arith in (
-        written_then 0 at a b start out last p q z (omega arith) ∙ ap (λ (xs : List ℕ). overwrite 0 xs start) w,
-        omega (arith, length-append a b, ap (λ (xs : List ℕ). length xs) w),
-      )
-
-  pub answer-departure : (ds : List Departure) (d : Departure) → Written start out at ds [] →
-      last ≡ overwrite at (leaving d) out → next ≡ at + length (leaving d) → Written start last next (ds ++ (d ∷ [])) []
-  answer-departure ds d w q f =
-      let m = written_more (answer_bytes ds []) (leaving d) (answer_bytes (ds ++ (d ∷ [])) []) w.bytes w.next q f (one-departure ds d) in
-      record { bytes = m.0; next = m.1 }
-
-  pub answer_flag : (ds : List Departure) (flags : List Bool) (away : Bool) → Written start out at ds flags →
-      last ≡ overwrite at (cond away 1 0 ∷ []) out → next ≡ at + 1 → Written start last next ds (flags ++ (away ∷ []))
-  answer_flag ds flags away w q f =
-      let m = written_more (answer_bytes ds flags) (cond away 1 0 ∷ []) (answer_bytes ds (flags ++ (away ∷ []))) w.bytes w.next q f (one_flag ds flags away) in
-      record { bytes = m.0; next = m.1 }
+-- an answer in the making: its kind, then what leaves, then the flags
+pub answer_written : (w start : Draft) (ds : List Departure) (flags : List Bool) →
+    w ≡ appended (flag_bytes flags) (appended (leaving_all ds) (appended (answer_kind ∷ []) (cleared start))) →
+    Written start.bytes w.bytes w.len ds flags
+answer_written w start ds flags e =
+    let all : w ≡ appended (answer_bytes ds flags) (cleared start) =
+    e ∙ (ap (λ (z : Draft). appended (flag_bytes flags) z) (appended_then (answer_kind ∷ []) (leaving_all ds) (cleared start))
+    ∙ appended_then (answer_kind ∷ leaving_all ds) (flag_bytes flags) (cleared start)) in
+    record { bytes = ap (λ (z : Draft). z.bytes) all; next = ap (λ (z : Draft). z.len) all ∙ zero-add (length (answer_bytes ds flags)) }
 
 flag_byte : (b : Bool) → bool_byte b ≡ cond b 1 0
 flag_byte true = refl
 flag_byte false = refl
 
--- one flag more is written
-pub flag_more : (start out last : List ℕ) (at next k b : ℕ) (ds : List Departure) (flags : List Bool) → k < length flags → Written start out at ds (take k flags) → b ≡ bool_byte (get_or flags k false) → last ≡ overwrite at (b ∷ []) out → next ≡ at + 1 → Written start last next ds (take (k + 1) flags)
-flag_more start out last at next k b ds flags h w e f g =
-    subst (λ (fs : List Bool). Written start last next ds fs) (sym (take_more flags k false h))
-    (answer_flag start out last at next ds (take k flags) (get_or flags k false) w (f ∙ ap (λ (x : ℕ). overwrite at (x ∷ []) out) (e ∙ flag_byte (get_or flags k false))) g)
+-- one departure more, and one flag more, are written
+pub departure_more : (w now last : Draft) (ds : List Departure) (d : Departure) →
+    now ≡ appended (leaving_all ds) w → last ≡ appended (leaving d) now → last ≡ appended (leaving_all (ds ++ (d ∷ []))) w
+departure_more w now last ds d e f =
+    f ∙ ap (λ (z : Draft). appended (leaving d) z) e ∙ appended_then (leaving_all ds) (leaving d) w
+    ∙ ap (λ (bs : List ℕ). appended bs w) (sym (leaving_push ds d))
+
+pub flag_more : (w now last : Draft) (flags : List Bool) (k b : ℕ) → k < length flags → b ≡ bool_byte (get_or flags k false) →
+    now ≡ appended (flag_bytes (take k flags)) w → last ≡ appended (b ∷ []) now → last ≡ appended (flag_bytes (take (k + 1) flags)) w
+flag_more w now last flags k b h g e f =
+    f ∙ ap (λ (z : Draft). appended (b ∷ []) z) e ∙ appended_then (flag_bytes (take k flags)) (b ∷ []) w
+    ∙ ap (λ (x : ℕ). appended (flag_bytes (take k flags) ++ (x ∷ [])) w) (g ∙ flag_byte (get_or flags k false))
+    ∙ ap (λ (bs : List ℕ). appended bs w) (sym (flags_push (take k flags) (get_or flags k false)))
+    ∙ ap (λ (fs : List Bool). appended (flag_bytes fs) w) (sym (take_more flags k false h))
+
+pub no_flags : (w : Draft) → w ≡ appended (flag_bytes []) w
+unfolding flag_bytes
+no_flags w = sym (appended-none w)
+
+pub no_departures : (w : Draft) → w ≡ appended (leaving_all []) w
+unfolding leaving_all
+no_departures w = sym (appended-none w)
 
 -- what a buffer then begins with, and what stands behind it
 pub answer_front : (start out : List ℕ) (at : ℕ) (ds : List Departure) (flags : List Bool) →

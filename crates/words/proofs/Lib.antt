@@ -1,4 +1,3 @@
-pub mod Entries
 pub mod Overwrites
 pub mod Scans
 pub mod Spelled

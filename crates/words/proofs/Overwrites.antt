@@ -1,13 +1,12 @@
 -- Writes into a buffer: one after the other is one of both, and how long what is written is.
-use Rattle.std.proofs.Common.{◌≡◌, ℕ, ◌+◌, ◌-◌, ◌≤◌, List, [], ◌∷◌, ◌++◌, length, take, drop, set, sym, refl, ap, ◌∙◌, add-zero, zero-add, arith}
-use lib.Lanes.{put_chunk}
+use Rattle.std.proofs.Common.{◌≡◌, ℕ, ◌+◌, ◌-◌, ◌<◌, ◌≤◌, ltb, List, [], ◌∷◌, ◌++◌, length, take, drop, set, sym, refl, ap, ◌∙◌, add-zero, zero-add, inl, inr, arith}
 use lib.Seq.{paste}
 use borrow.Rule.Slice.PartMut.{put_mid}
-use Rattle.std.proofs.lemmas.List.{take-append-drop, take_at, drop_at, append_assoc, length-append, length-take-le, length-drop}
+use Rattle.std.proofs.lemmas.List.{take-append-drop, take_all, drop_all, append-nil, take_at, drop_at, append_assoc, length-append, length-take-le, length-drop}
 use Rattle.std.proofs.lemmas.List.Edits.{paste-paste, paste_all, sets-eq}
 use Rattle.std.proofs.lemmas.Slice.{put_mid-paste}
-use Rattle.crossbox.specs.declared.Cell.{Cell}
-use Rattle.words.specs.Writing.{overwrite, departure_bytes}
+use Rattle.std.proofs.lemmas.Bool.{cases_Bool, ltb-true, ltb-false}
+use Rattle.words.specs.Writing.{Draft, overwrite, appended}
 
 pub overwrite-length : (at : ℕ) (bytes out : List ℕ) →
     at + length bytes ≤ length out → length (overwrite at bytes out) ≡ length out
@@ -33,6 +32,26 @@ overwrite_then at next a b out e h =
     let s = paste-paste out at a b (length a) (length b) refl refl h in
     let l = length-append a b in
     rw (e, p, q, r, l) s
+
+overwrite_past : (at : ℕ) (bytes out : List ℕ) → length out ≤ at → overwrite at bytes out ≡ out ++ bytes
+unfolding overwrite
+overwrite_past at bytes out h =
+    ap (λ (xs : List ℕ). xs ++ (bytes ++ drop (at + length bytes) out)) (take_all at out h)
+    ∙ ap (λ (xs : List ℕ). out ++ (bytes ++ xs)) (drop_all (at + length bytes) out (omega arith))
+    ∙ ap (λ (xs : List ℕ). out ++ xs) (append-nil bytes)
+
+-- so it is at a place behind the buffer's end too
+overwrite-on : (at : ℕ) (a b out : List ℕ) → overwrite (at + length a) b (overwrite at a out) ≡ overwrite at (a ++ b) out
+overwrite-on at a b out =
+    elim (cases_Bool (ltb (length out) at)) [
+      | inl e ↦
+          let h = ltb-true (length out) at e in
+          ap (λ (xs : List ℕ). overwrite (at + length a) b xs) (overwrite_past at a out (omega arith))
+          ∙ overwrite_past (at + length a) b (out ++ a) (omega (arith, length-append out a))
+          ∙ append_assoc out a b
+          ∙ sym (overwrite_past at (a ++ b) out (omega arith))
+      | inr e ↦ overwrite_then at (at + length a) a b out refl (ltb-false (length out) at e)
+    ]
 
 -- the same of three states of a buffer
 pub written_then : (at next : ℕ) (a b start between last : List ℕ) →
@@ -68,13 +87,29 @@ overwrite-part at size bytes part out e l =
     let k : length bytes ≡ at + size - at = omega arith in
     put_mid-paste at (at + size - at) out part bytes (length bytes) e k refl ∙ sym (overwrite_paste at bytes out)
 
--- a vector copied over as many bytes
-pub put_whole : (xs ys : List ℕ) → length xs ≡ length ys → put_chunk 0 xs ys ≡ ys
-put_whole [] [] e = refl
-put_whole [] (y ∷ ys) e = absurd (omega arith)
-put_whole (x ∷ xs) [] e = absurd (omega arith)
-put_whole (x ∷ xs) (y ∷ ys) e = ap (λ (zs : List ℕ). y ∷ zs) (put_whole xs ys (omega arith))
+-- an answer with this behind it, and then that
+pub appended_then : (a b : List ℕ) (w : Draft) → appended b (appended a w) ≡ appended (a ++ b) w
+appended_then a b w =
+    let bytes = overwrite-on w.len a b w.bytes in
+    let len : w.len + length a + length b ≡ w.len + length (a ++ b) = omega (arith, length-append a b) in
+    λ i. record { bytes = bytes i; len = len i }
 
--- a departure takes 69 bytes
-pub departure-length : (c : Cell) (body : List ℕ) → length body ≡ 64 → length (departure_bytes c body) ≡ 69
-departure-length c body e = omega arith
+pub appended-none : (w : Draft) → appended [] w ≡ w
+appended-none w =
+    let bytes = overwrite-none w.len w.bytes in
+    let len : w.len + 0 ≡ w.len = omega arith in
+    λ i. record { bytes = bytes i; len = len i }
+
+-- one byte more, and a part more, as the code leaves them
+pub appended_byte : (b : ℕ) (w : Draft) → w.len < length w.bytes →
+    record { bytes = set w.bytes w.len b; len = w.len + 1 } ≡ appended (b ∷ []) w
+appended_byte b w h =
+    let bytes = overwrite_byte w.len b w.bytes (omega arith) in
+    λ i. record { bytes = bytes i; len = w.len + 1 }
+
+pub appended_part : (size : ℕ) (bs part : List ℕ) (w : Draft) → part ≡ bs → length bs ≡ size →
+    record { bytes = put_mid w.len (w.len + size - w.len) w.bytes part; len = w.len + size } ≡ appended bs w
+appended_part size bs part w e l =
+    let bytes = overwrite-part w.len size bs part w.bytes e l in
+    let n = sym l in
+    λ i. record { bytes = bytes i; len = w.len + n i }

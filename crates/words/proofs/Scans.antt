@@ -1,5 +1,5 @@
 -- Reading line after line: what is left to read, with what is known of the lines before.
-use Rattle.std.proofs.Common.{◌≡◌, ℕ, zero, suc, ◌-◌, ◌<◌, ◌≤◌, Bool, true, false, cond, ◌&&◌, List, [], ◌∷◌, length, Some, None, Ok, Err, Option, sym, refl, ap, ◌∙◌, subst, arith}
+use Rattle.std.proofs.Common.{◌≡◌, ℕ, zero, suc, ◌<◌, ◌≤◌, Bool, true, false, cond, ◌&&◌, List, [], ◌∷◌, length, Some, None, Ok, Err, Option, sym, refl, ap, ◌∙◌, subst, arith}
 use Rattle.words.specs.declared.fault.Fault.TheVariants.{Malformed, NoSuchOutput, SlotLimit}
 use Rattle.words.specs.Lines.{Line, read_entry, read_lines, before, fits, all_fit, judged, judge, verdict}
 
@@ -25,14 +25,14 @@ unfolding all_fit
 scanned-before n all l None = refl
 scanned-before n all l (Some ls) = ap (λ (b : Bool). Some b) (and_assoc all (fits n l.arrival) (all_fit n ls))
 
-pub scan_step : (n size left : ℕ) (all : Bool) (bytes : List ℕ) (l : Line) (rest : List ℕ) →
-    0 < left → Some (l, rest) ≡ read_entry size bytes →
-    scan n size (left - 1) (all && fits n l.arrival) rest ≡ scan n size left all bytes
+pub scan_step : (n size left : ℕ) (all : Bool) (bytes : List ℕ) (l : Line) (rest : List ℕ) (next : ℕ) (fit : Bool) →
+    left ≡ suc next → fit ≡ fits n l.arrival → Some (l, rest) ≡ read_entry size bytes →
+    scan n size next (all && fit) rest ≡ scan n size left all bytes
 unfolding scan read_lines
-scan_step n size zero all bytes l rest h e = absurd (omega arith)
-scan_step n size (suc k) all bytes l rest h e =
-    let less : suc k - 1 ≡ k = omega arith in
-    rw (less, ← e) (scanned-before n all l (read_lines size k rest))
+scan_step n size zero all bytes l rest next fit h f e = absurd (omega arith)
+scan_step n size (suc k) all bytes l rest next fit h f e =
+    let less : next ≡ k = omega arith in
+    rw (less, f, ← e) (scanned-before n all l (read_lines size k rest))
 
 pub scan-cut : (n size left : ℕ) (all : Bool) (bytes : List ℕ) →
     0 < left → None ≡ read_entry size bytes → scan n size left all bytes ≡ None

@@ -9,6 +9,10 @@ most_lines = 32
 abbrev pub body_bytes : ℕ
 body_bytes = 64
 
+-- the longest answer: its kind, 32 departures, and a flag for each of 32 inputs
+abbrev pub longest_answer : ℕ
+longest_answer = 2241
+
 -- the byte that stands for no cell
 abbrev pub no_cell : ℕ
 no_cell = 255

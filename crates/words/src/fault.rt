@@ -2,31 +2,22 @@
 ghost use Rattle.std.specs.Prelude.{◌≡◌};
 ghost use Rattle.words.specs.Fault.{number};
 
-// The causes, the lowest number first.
-#[derive(Clone, Copy)]
+// The causes, by the numbers that refusals give.
+#[derive(Clone, Copy, PartialEq, Eq)]
 pub enum Fault {
-    Malformed,
-    LineCount,
-    NoSuchOutput,
-    SlotLimit,
-    NotWaiting,
-    SharedOutput,
-    Unstable,
+    Malformed = 1,
+    LineCount = 2,
+    NoSuchOutput = 3,
+    SlotLimit = 4,
+    NotWaiting = 5,
+    SharedOutput = 6,
+    Unstable = 7,
 }
 
-impl Fault {
-    // The number that a refusal gives.
-    pub fn number(self) -> u8
-        ensures { result ≡ number self }
-    {
-        match self {
-            Fault::Malformed => 1,
-            Fault::LineCount => 2,
-            Fault::NoSuchOutput => 3,
-            Fault::SlotLimit => 4,
-            Fault::NotWaiting => 5,
-            Fault::SharedOutput => 6,
-            Fault::Unstable => 7,
-        }
+impl From<Fault> for u8 {
+    ghost from_gives = { λ fault n. n ≡ number fault };
+
+    fn from(fault: Fault) -> u8 {
+        fault as u8
     }
 }

@@ -1,15 +1,14 @@
 // Readers of words: each gives what the bytes say, or that they say nothing.
-ghost use Rattle.std.specs.Prelude.{◌≡◌, ◌&&◌, length};
+ghost use Rattle.std.specs.Prelude.{◌≡◌, length};
 ghost use Rattle.words.specs.Kind.{kind_of};
 ghost use Rattle.words.specs.Lines.{settings, read_entry, entry_of, fits, judge, verdict};
 
 use crate::fault::Fault;
 use crate::{BODY, CHOICE, MOST_LINES, NONE, SETTINGS, SLOT};
 use crossbox::Arrival;
-use std::simd::prelude::*;
 
 // The kind of a word, by its first byte.
-#[derive(Clone, Copy)]
+#[derive(Clone, Copy, PartialEq, Eq)]
 pub enum Kind {
     Settings,
     Slot,
@@ -18,7 +17,7 @@ pub enum Kind {
 }
 
 impl Kind {
-    // The kind of a word; unknown if it is empty.
+    // The kind of a word; unknown if it is empty. No `From`: it gives up all but the first byte.
     pub fn of(word: &[u8]) -> Kind
         ensures { result ≡ kind_of word.now }
     {
@@ -38,7 +37,7 @@ pub fn read_settings(word: &[u8]) -> Result<u8, Fault>
     let [_, lines] = word else {
         return Err(Fault::Malformed);
     };
-    if *lines == 0 || *lines > MOST_LINES {
+    if *lines == 0 || *lines as usize > MOST_LINES {
         return Err(Fault::LineCount);
     }
     Ok(*lines)
@@ -53,6 +52,7 @@ pub struct Entry<'a> {
 }
 
 // Reads one input's part, with a body of `size` bytes where a cell arrives; `None` where the bytes end before.
+#[tactic(auto, unfolding(crate::specs::Lines::read_entry))]
 pub fn read_entry(bytes: &[u8], size: usize) -> Option<Entry<'_>>
     ensures { entry_of result ≡ read_entry size bytes.now }
 {
@@ -76,21 +76,23 @@ pub fn read_entry(bytes: &[u8], size: usize) -> Option<Entry<'_>>
     })
 }
 
-// What a cell carries, as an array.
+// What a cell carries, as an array. No `TryFrom`: it cannot fail, as the caller has seen how many bytes there are.
 pub fn body_of(bytes: &[u8]) -> [u8; BODY]
-    requires { length bytes.now ≡ 64 }
+    requires { length bytes.now ≡ BODY }
     ensures { result ≡ bytes.now }
 {
-    u8x64::from_slice(bytes).to_array()
+    let mut body = [0; BODY];
+    body.copy_from_slice(bytes);
+    body
 }
 
-// Whether all lines so far and this one are for outputs that are there.
-fn still_fit(all: bool, n: u8, arrival: Arrival) -> bool
-    ensures { result ≡ (all && fits n arrival) }
+// Whether what arrives is for an output that is there.
+fn fits(n: u8, arrival: Arrival) -> bool
+    ensures { result ≡ fits n arrival }
 {
     match arrival {
-        Arrival::Nothing => all,
-        Arrival::For(output) => all && output < n,
+        Arrival::Nothing => true,
+        Arrival::For(output) => output < n,
     }
 }
 
@@ -100,14 +102,12 @@ pub fn judge_lines(n: u8, size: usize, late: bool, bytes: &[u8]) -> Result<(), F
 {
     let mut rest = bytes;
     let mut all_fit = true;
-    let mut left = n;
-    while left > 0 {
+    for _ in 0..n {
         let Some(entry) = read_entry(rest, size) else {
             return Err(Fault::Malformed);
         };
-        all_fit = still_fit(all_fit, n, entry.arrival);
+        all_fit &= fits(n, entry.arrival);
         rest = entry.rest;
-        left -= 1;
     }
     if rest.len() > 0 {
         return Err(Fault::Malformed);

@@ -1,34 +1,34 @@
-use Rattle.std.proofs.Common.{◌≡◌, ◌≤◌, length, sym, ap, ◌∙◌, subst, arith, rules}
+use Rattle.std.proofs.Common.{◌≤◌, sym, ap, ◌∙◌, subst, arith}
 use Rattle.cioq.specs.State.{State, state, Good, Counted}
-use Rattle.cioq.proofs.Departures.{depart-none, start_written, departed-lines, departed_good, departed_counted, step-departed, step_written, step-next}
+use Rattle.cioq.proofs.Departures.{depart-none, start_written, departed-lines, departed_good, departed_counted, step-departed, step_written}
 use Rattle.cioq.proofs.RealBox.depart.Goals as goal
 
 pub loop-output-init : goal.loop-output-init
 loop-output-init c =
-    let w = start_written (state c.args.self.now) c.args.at c.args.out.now in
-    (sym (depart-none (state c.args.self.now)), w.0, w.1, omega arith)
-
-pub depart_one-next-requires : goal.depart_one-next-requires
-depart_one-next-requires c =
     let s = state c.args.self.now in
+    (sym (depart-none s), start_written s c.args.answer.now, omega arith)
+
+pub depart_one-requires : goal.depart_one-requires
+depart_one-requires c =
+    let s = state c.args.self.now in
+    let k = c.loop-output.output in
     let e = c.loop-output.invariant.0 in
-    let le : c.loop-output.output ≤ c.args.self.now.lines = omega (arith, c.loop-output-test.true) in
-    let n : c.loop-output.self.lines ≡ c.args.self.now.lines = ap (λ (z : State). z.lines) e ∙ departed-lines c.loop-output.output s in
+    let le : k ≤ s.lines = omega (arith, c.loop-output-test.true) in
+    let n = ap (λ (z : State). z.lines) e ∙ departed-lines k s in
     record {
-      good = subst Good (sym e) (departed_good c.loop-output.output s c.requires.good c.requires.counted le);
-      there = omega (arith, c.loop-output-test.true);
-      room = omega (arith, c.requires.room, c.loop-output.invariant.3, c.loop-output-test.true);
-      counted = subst Counted (sym e) (departed_counted c.loop-output.output s c.requires.good c.requires.counted le);
+      good = subst Good (sym e) (departed_good k s c.requires.good c.requires.counted le);
+      there = omega (arith, n, c.loop-output-test.true);
+      room = omega (arith, c.requires.room, c.loop-output.invariant.2, c.loop-output-test.true);
+      counted = subst Counted (sym e) (departed_counted k s c.requires.good c.requires.counted le);
     }
 
 pub loop-output-preserved : goal.loop-output-preserved
 loop-output-preserved c =
     let s = state c.args.self.now in
-    let i = c.loop-output.invariant in
-    let en = c.depart_one-next.ensures in
-    let reach : c.args.at ≤ length c.args.out.now = search rules in (
-      step-departed s (state c.loop-output.self) (state c.depart_one-next.new.self) c.loop-output.output c.args.at c.loop-output.next c.depart_one-next.result c.args.out.now c.loop-output.out c.depart_one-next.new.out i.0 en.after reach i.1 i.2 en.bytes en.next,
-      step_written s (state c.loop-output.self) (state c.depart_one-next.new.self) c.loop-output.output c.args.at c.loop-output.next c.depart_one-next.result c.args.out.now c.loop-output.out c.depart_one-next.new.out i.0 en.after reach i.1 i.2 en.bytes en.next,
-      step-next s (state c.loop-output.self) (state c.depart_one-next.new.self) c.loop-output.output c.args.at c.loop-output.next c.depart_one-next.result c.args.out.now c.loop-output.out c.depart_one-next.new.out i.0 en.after reach i.1 i.2 en.bytes en.next,
-      omega (arith, en.short, i.3),
+    let before = state c.loop-output.self in
+    let k = c.loop-output.output in
+    let i = c.loop-output.invariant in (
+      step-departed s before k i.0 (state c.depart_one.new.self) c.depart_one.ensures.after,
+      step_written s before k i.0 c.args.answer.now c.loop-output.answer c.depart_one.new.answer i.1 c.depart_one.ensures.answer,
+      omega (arith, c.depart_one.ensures.short, i.2),
     )

@@ -1,5 +1,5 @@
-use Rattle.std.proofs.Common.{◌≡◌, ◌+◌, ◌*◌, ◌≤◌, length}
-use Rattle.words.specs.Writing.{overwrite}
+use Rattle.std.proofs.Common.{◌≡◌, ◌+◌, ◌*◌, ◌≤◌}
+use Rattle.words.specs.Writing.{appended}
 use Rattle.cioq.specs.State.{state}
 use Rattle.cioq.specs.Departures.{depart_all, departing_bytes}
 use Rattle.cioq.proofs.RealBox.depart.Given as goal
@@ -8,6 +8,5 @@ use Rattle.cioq.proofs.RealBox.depart.Given as goal
 abbrev pub invariant-loop-output : goal.invariant-loop-output
 invariant-loop-output l =
     (state l.self ≡ depart_all l.output (state l.initial.self)) ×
-    (l.out ≡ overwrite l.at (departing_bytes l.output (state l.initial.self)) l.initial.out) ×
-    (l.next ≡ l.at + length (departing_bytes l.output (state l.initial.self))) ×
-    (l.next ≤ l.at + 69 * l.output)
+    (l.answer ≡ appended (departing_bytes l.output (state l.initial.self)) l.initial.answer) ×
+    (l.answer.len ≤ l.initial.answer.len + 69 * l.output)

@@ -1,11 +1,11 @@
-use Rattle.std.proofs.Common.{◌≡◌, ℕ, false, Ok, sym, subst}
+use Rattle.std.proofs.Common.{◌≡◌, ℕ, false, Ok, sym, ◌∙◌, subst}
 use Rattle.crossbox.specs.Cells.{Arrivals}
 use Rattle.crossbox.specs.Promise.{Fits}
 use Rattle.words.specs.Lines.{judge, verdict}
 use Rattle.cioq.specs.Arrivals.{arrivals_of}
 use Rattle.cioq.specs.Choice.{choice_of}
 use Rattle.crowd.specs.State.{state, choice_lines}
-use Rattle.crowd.proofs.Reading.{one_good, choice_fits}
+use Rattle.crowd.proofs.Reading.{choice_fits}
 use Rattle.crowd.proofs.Within.{shows_good, shows_aimed}
 use Rattle.crowd.proofs.Crowd.choose.Goals as goal
 
@@ -13,8 +13,8 @@ pub test-requires : goal.test-requires
 test-requires c =
     let s = state c.args.self.now in
     let bytes = c.args.lines.now in
-    let ok = subst (λ (n : ℕ). Ok tt ≡ verdict (judge n 0 false bytes)) c.lines.ensures (one_good c.in-Ok.field-0 (verdict (judge c.lines.result 0 false bytes)) c.in-Ok.ensures) in
-    let named = subst (λ (n : ℕ). choice_of c.read_choice-choice.result ≡ arrivals_of (choice_lines n bytes)) c.lines-in-Ok.ensures c.read_choice-choice.ensures in
+    let ok = subst (λ (n : ℕ). Ok tt ≡ verdict (judge n 0 false bytes)) c.lines.ensures (sym c.in_ok-judge_lines.was ∙ c.judge_lines.ensures) in
+    let named = subst (λ (n : ℕ). choice_of c.read_choice-choice.result ≡ arrivals_of (choice_lines n bytes)) c.lines-2.ensures c.read_choice-choice.ensures in
     record {
       good = shows_good s c.requires.0 c.requires.1;
       fits = subst (λ (ch : Arrivals). Fits s.real.lines ch) (sym named) (choice_fits s.real.lines bytes ok);

@@ -1,12 +1,11 @@
-use Rattle.std.proofs.Common.{◌≡◌, ℕ, take, sym, refl, ap, ◌∙◌, subst, arith, rules}
-use Rattle.words.specs.Answer.{Written}
-use Rattle.words.proofs.Answered.{answer_begins}
+use Rattle.std.proofs.Common.{◌≡◌, ℕ, length, take, rules, refl, ap, ◌∙◌, subst, sym, arith}
+use Rattle.std.proofs.lemmas.List.{length-take}
+use Rattle.words.specs.Writing.{Draft, appended}
+use Rattle.words.specs.Answer.{flag_bytes}
+use Rattle.buffer.specs.Lent.{lent_to}
 use Rattle.cioq.specs.State.{State, state}
 use Rattle.cioq.specs.Departures.{depart_all}
 use Rattle.cioq.specs.Arrivals.{slot_lines}
-use Rattle.cioq.proofs.Arrivals.{all_lines}
-use Rattle.cioq.proofs.Transfers.{transferred_lines}
-use Rattle.buffer.specs.Lent.{lent_to}
 use Rattle.switch.specs.Taking.{Serves}
 use Rattle.fabric.specs.Real.{Shows}
 use Rattle.fabric.proofs.Stages.{stage_tied, stage_aimed, stage_counted, stage_fits, stage_waits}
@@ -15,54 +14,170 @@ use Rattle.fabric.proofs.Fabric.serve_slot.Goals as goal
 
 pub choose-first-requires : goal.choose-first-requires
 choose-first-requires c =
-    let g = (first_stage (state c.args.self.now.real) c.requires.runs.0 c.args.lines.now c.requires.runs.1 c.requires.read (state c.arrive-turned_away.new.self) c.arrive-turned_away.ensures.after) in
-    record { good = (g.good, stage_aimed _ _ _ _ (state c.arrive-turned_away.new.self) (one (state c.args.self.now.real) c.requires.runs.0 c.args.lines.now c.requires.runs.1 c.requires.read) g); tied = (one (state c.args.self.now.real) c.requires.runs.0 c.args.lines.now c.requires.runs.1 c.requires.read, stage_tied _ _ _ _ (state c.arrive-turned_away.new.self) (one (state c.args.self.now.real) c.requires.runs.0 c.args.lines.now c.requires.runs.1 c.requires.read) g) }
+    let s = state c.args.self.now.real in
+    let past = c.requires.runs.0 in
+    let bytes = c.args.lines.now in
+    let h = c.requires.runs.1 in
+    let read = c.requires.read in
+    let b1 = one s past bytes h read in
+    let s1 = state c.arrive-turned_away.new.self in
+    let e1 = c.arrive-turned_away.ensures.after in
+    let g1 = first_stage s past bytes h read s1 e1 in
+    record { good = (g1.good, stage_aimed _ _ _ _ s1 b1 g1); tied = (b1, stage_tied _ _ _ _ s1 b1 g1) }
 
 pub transfer-requires : goal.transfer-requires
 transfer-requires c =
-    let g = (first_stage (state c.args.self.now.real) c.requires.runs.0 c.args.lines.now c.requires.runs.1 c.requires.read (state c.arrive-turned_away.new.self) c.arrive-turned_away.ensures.after) in
-    let f = (c.choose-first.ensures (one (state c.args.self.now.real) c.requires.runs.0 c.args.lines.now c.requires.runs.1 c.requires.read) (stage_tied _ _ _ _ (state c.arrive-turned_away.new.self) (one (state c.args.self.now.real) c.requires.runs.0 c.args.lines.now c.requires.runs.1 c.requires.read) (first_stage (state c.args.self.now.real) c.requires.runs.0 c.args.lines.now c.requires.runs.1 c.requires.read (state c.arrive-turned_away.new.self) c.arrive-turned_away.ensures.after))) in
-    record { good = g.good; fits = stage_fits _ _ _ _ (state c.arrive-turned_away.new.self) (one (state c.args.self.now.real) c.requires.runs.0 c.args.lines.now c.requires.runs.1 c.requires.read) g c.choose-first.result f; waits = stage_waits _ _ _ _ (state c.arrive-turned_away.new.self) (one (state c.args.self.now.real) c.requires.runs.0 c.args.lines.now c.requires.runs.1 c.requires.read) g c.choose-first.result f }
+    let s = state c.args.self.now.real in
+    let past = c.requires.runs.0 in
+    let bytes = c.args.lines.now in
+    let h = c.requires.runs.1 in
+    let read = c.requires.read in
+    let b1 = one s past bytes h read in
+    let s1 = state c.arrive-turned_away.new.self in
+    let e1 = c.arrive-turned_away.ensures.after in
+    let g1 = first_stage s past bytes h read s1 e1 in
+    let r1 = c.choose-first.result in
+    let f1 = c.choose-first.ensures b1 (stage_tied _ _ _ _ s1 b1 g1) in
+    record { good = g1.good; fits = stage_fits _ _ _ _ s1 b1 g1 r1 f1; waits = stage_waits _ _ _ _ s1 b1 g1 r1 f1 }
 
-pub depart-left-requires : goal.depart-left-requires
-depart-left-requires c =
-    let g = (second_stage (state c.args.self.now.real) c.requires.runs.0 c.args.lines.now c.requires.runs.1 c.requires.read (state c.arrive-turned_away.new.self) (state c.transfer.new.self) (depart_all (state c.transfer.new.self).lines (state c.transfer.new.self)) (state c.transfer.new.self) c.choose-first.result c.choose-first.result c.arrive-turned_away.ensures.after c.transfer.ensures (c.choose-first.ensures (one (state c.args.self.now.real) c.requires.runs.0 c.args.lines.now c.requires.runs.1 c.requires.read) (stage_tied _ _ _ _ (state c.arrive-turned_away.new.self) (one (state c.args.self.now.real) c.requires.runs.0 c.args.lines.now c.requires.runs.1 c.requires.read) (first_stage (state c.args.self.now.real) c.requires.runs.0 c.args.lines.now c.requires.runs.1 c.requires.read (state c.arrive-turned_away.new.self) c.arrive-turned_away.ensures.after))) refl) in
-    let few = c.requires.runs.1.good.few in
-    record { good = g.good; counted = stage_counted _ _ _ _ (state c.transfer.new.self) _ g; room = omega (arith, g.lines, c.write_byte-begun.ensures.next) }
+pub depart-requires : goal.depart-requires
+depart-requires c =
+    let s = state c.args.self.now.real in
+    let past = c.requires.runs.0 in
+    let bytes = c.args.lines.now in
+    let h = c.requires.runs.1 in
+    let read = c.requires.read in
+    let b1 = one s past bytes h read in
+    let s1 = state c.arrive-turned_away.new.self in
+    let e1 = c.arrive-turned_away.ensures.after in
+    let g1 = first_stage s past bytes h read s1 e1 in
+    let r1 = c.choose-first.result in
+    let f1 = c.choose-first.ensures b1 (stage_tied _ _ _ _ s1 b1 g1) in
+    let s2 = state c.transfer.new.self in
+    let e2 = c.transfer.ensures in
+    let g2 = second_stage s past bytes h read s1 s2 (depart_all s2.lines s2) s2 r1 r1 e1 e2 f1 refl in
+    record { good = g2.good; counted = stage_counted _ _ _ _ s2 _ g2; room = omega (arith, g2.lines, h.good.few, ap (λ (d : Draft). d.len) c.begin.ensures) }
 
 pub choose-second-requires : goal.choose-second-requires
 choose-second-requires c =
-    let g = (third_stage (state c.args.self.now.real) c.requires.runs.0 c.args.lines.now c.requires.runs.1 c.requires.read (state c.arrive-turned_away.new.self) (state c.transfer.new.self) (state c.depart-left.new.self) (state c.depart-left.new.self) c.choose-first.result c.choose-first.result c.arrive-turned_away.ensures.after c.transfer.ensures (c.choose-first.ensures (one (state c.args.self.now.real) c.requires.runs.0 c.args.lines.now c.requires.runs.1 c.requires.read) (stage_tied _ _ _ _ (state c.arrive-turned_away.new.self) (one (state c.args.self.now.real) c.requires.runs.0 c.args.lines.now c.requires.runs.1 c.requires.read) (first_stage (state c.args.self.now.real) c.requires.runs.0 c.args.lines.now c.requires.runs.1 c.requires.read (state c.arrive-turned_away.new.self) c.arrive-turned_away.ensures.after))) c.depart-left.ensures.after) in
-    record { good = (g.good, stage_aimed _ _ _ _ (state c.depart-left.new.self) (three (state c.args.self.now.real) c.requires.runs.0 c.args.lines.now c.requires.runs.1 c.requires.read) g); tied = (three (state c.args.self.now.real) c.requires.runs.0 c.args.lines.now c.requires.runs.1 c.requires.read, stage_tied _ _ _ _ (state c.depart-left.new.self) (three (state c.args.self.now.real) c.requires.runs.0 c.args.lines.now c.requires.runs.1 c.requires.read) g) }
+    let s = state c.args.self.now.real in
+    let past = c.requires.runs.0 in
+    let bytes = c.args.lines.now in
+    let h = c.requires.runs.1 in
+    let read = c.requires.read in
+    let b1 = one s past bytes h read in
+    let s1 = state c.arrive-turned_away.new.self in
+    let e1 = c.arrive-turned_away.ensures.after in
+    let g1 = first_stage s past bytes h read s1 e1 in
+    let r1 = c.choose-first.result in
+    let f1 = c.choose-first.ensures b1 (stage_tied _ _ _ _ s1 b1 g1) in
+    let s2 = state c.transfer.new.self in
+    let e2 = c.transfer.ensures in
+    let s3 = state c.depart.new.self in
+    let b3 = three s past bytes h read in
+    let e3 = c.depart.ensures.after in
+    let g3 = third_stage s past bytes h read s1 s2 s3 s3 r1 r1 e1 e2 f1 e3 in
+    record { good = (g3.good, stage_aimed _ _ _ _ s3 b3 g3); tied = (b3, stage_tied _ _ _ _ s3 b3 g3) }
 
 pub transfer-requires-2 : goal.transfer-requires-2
 transfer-requires-2 c =
-    let g = (third_stage (state c.args.self.now.real) c.requires.runs.0 c.args.lines.now c.requires.runs.1 c.requires.read (state c.arrive-turned_away.new.self) (state c.transfer.new.self) (state c.depart-left.new.self) (state c.depart-left.new.self) c.choose-first.result c.choose-first.result c.arrive-turned_away.ensures.after c.transfer.ensures (c.choose-first.ensures (one (state c.args.self.now.real) c.requires.runs.0 c.args.lines.now c.requires.runs.1 c.requires.read) (stage_tied _ _ _ _ (state c.arrive-turned_away.new.self) (one (state c.args.self.now.real) c.requires.runs.0 c.args.lines.now c.requires.runs.1 c.requires.read) (first_stage (state c.args.self.now.real) c.requires.runs.0 c.args.lines.now c.requires.runs.1 c.requires.read (state c.arrive-turned_away.new.self) c.arrive-turned_away.ensures.after))) c.depart-left.ensures.after) in
-    let f = (c.choose-second.ensures (three (state c.args.self.now.real) c.requires.runs.0 c.args.lines.now c.requires.runs.1 c.requires.read) (stage_tied _ _ _ _ (state c.depart-left.new.self) (three (state c.args.self.now.real) c.requires.runs.0 c.args.lines.now c.requires.runs.1 c.requires.read) (third_stage (state c.args.self.now.real) c.requires.runs.0 c.args.lines.now c.requires.runs.1 c.requires.read (state c.arrive-turned_away.new.self) (state c.transfer.new.self) (state c.depart-left.new.self) (state c.depart-left.new.self) c.choose-first.result c.choose-first.result c.arrive-turned_away.ensures.after c.transfer.ensures (c.choose-first.ensures (one (state c.args.self.now.real) c.requires.runs.0 c.args.lines.now c.requires.runs.1 c.requires.read) (stage_tied _ _ _ _ (state c.arrive-turned_away.new.self) (one (state c.args.self.now.real) c.requires.runs.0 c.args.lines.now c.requires.runs.1 c.requires.read) (first_stage (state c.args.self.now.real) c.requires.runs.0 c.args.lines.now c.requires.runs.1 c.requires.read (state c.arrive-turned_away.new.self) c.arrive-turned_away.ensures.after))) c.depart-left.ensures.after))) in
-    record { good = g.good; fits = stage_fits _ _ _ _ (state c.depart-left.new.self) (three (state c.args.self.now.real) c.requires.runs.0 c.args.lines.now c.requires.runs.1 c.requires.read) g c.choose-second.result f; waits = stage_waits _ _ _ _ (state c.depart-left.new.self) (three (state c.args.self.now.real) c.requires.runs.0 c.args.lines.now c.requires.runs.1 c.requires.read) g c.choose-second.result f }
+    let s = state c.args.self.now.real in
+    let past = c.requires.runs.0 in
+    let bytes = c.args.lines.now in
+    let h = c.requires.runs.1 in
+    let read = c.requires.read in
+    let b1 = one s past bytes h read in
+    let s1 = state c.arrive-turned_away.new.self in
+    let e1 = c.arrive-turned_away.ensures.after in
+    let g1 = first_stage s past bytes h read s1 e1 in
+    let r1 = c.choose-first.result in
+    let f1 = c.choose-first.ensures b1 (stage_tied _ _ _ _ s1 b1 g1) in
+    let s2 = state c.transfer.new.self in
+    let e2 = c.transfer.ensures in
+    let s3 = state c.depart.new.self in
+    let b3 = three s past bytes h read in
+    let e3 = c.depart.ensures.after in
+    let g3 = third_stage s past bytes h read s1 s2 s3 s3 r1 r1 e1 e2 f1 e3 in
+    let r2 = c.choose-second.result in
+    let f2 = c.choose-second.ensures b3 (stage_tied _ _ _ _ s3 b3 g3) in
+    record { good = g3.good; fits = stage_fits _ _ _ _ s3 b3 g3 r2 f2; waits = stage_waits _ _ _ _ s3 b3 g3 r2 f2 }
 
 pub pass-requires : goal.pass-requires
 pass-requires c =
-    let g = fourth_stage (state c.args.self.now.real) c.requires.runs.0 c.args.lines.now c.requires.runs.1 c.requires.read (state c.arrive-turned_away.new.self) (state c.transfer.new.self) (state c.depart-left.new.self) (state c.transfer-2.new.self) c.choose-first.result c.choose-second.result c.arrive-turned_away.ensures.after c.transfer.ensures (c.choose-first.ensures (one (state c.args.self.now.real) c.requires.runs.0 c.args.lines.now c.requires.runs.1 c.requires.read) (stage_tied _ _ _ _ (state c.arrive-turned_away.new.self) (one (state c.args.self.now.real) c.requires.runs.0 c.args.lines.now c.requires.runs.1 c.requires.read) (first_stage (state c.args.self.now.real) c.requires.runs.0 c.args.lines.now c.requires.runs.1 c.requires.read (state c.arrive-turned_away.new.self) c.arrive-turned_away.ensures.after))) c.depart-left.ensures.after c.transfer-2.ensures (c.choose-second.ensures (three (state c.args.self.now.real) c.requires.runs.0 c.args.lines.now c.requires.runs.1 c.requires.read) (stage_tied _ _ _ _ (state c.depart-left.new.self) (three (state c.args.self.now.real) c.requires.runs.0 c.args.lines.now c.requires.runs.1 c.requires.read) (third_stage (state c.args.self.now.real) c.requires.runs.0 c.args.lines.now c.requires.runs.1 c.requires.read (state c.arrive-turned_away.new.self) (state c.transfer.new.self) (state c.depart-left.new.self) (state c.depart-left.new.self) c.choose-first.result c.choose-first.result c.arrive-turned_away.ensures.after c.transfer.ensures (c.choose-first.ensures (one (state c.args.self.now.real) c.requires.runs.0 c.args.lines.now c.requires.runs.1 c.requires.read) (stage_tied _ _ _ _ (state c.arrive-turned_away.new.self) (one (state c.args.self.now.real) c.requires.runs.0 c.args.lines.now c.requires.runs.1 c.requires.read) (first_stage (state c.args.self.now.real) c.requires.runs.0 c.args.lines.now c.requires.runs.1 c.requires.read (state c.arrive-turned_away.new.self) c.arrive-turned_away.ensures.after))) c.depart-left.ensures.after))) in
-    omega (arith, g.slots_had, c.requires.early)
+    let s = state c.args.self.now.real in
+    let past = c.requires.runs.0 in
+    let bytes = c.args.lines.now in
+    let h = c.requires.runs.1 in
+    let read = c.requires.read in
+    let b1 = one s past bytes h read in
+    let s1 = state c.arrive-turned_away.new.self in
+    let e1 = c.arrive-turned_away.ensures.after in
+    let g1 = first_stage s past bytes h read s1 e1 in
+    let r1 = c.choose-first.result in
+    let f1 = c.choose-first.ensures b1 (stage_tied _ _ _ _ s1 b1 g1) in
+    let s2 = state c.transfer.new.self in
+    let e2 = c.transfer.ensures in
+    let s3 = state c.depart.new.self in
+    let b3 = three s past bytes h read in
+    let e3 = c.depart.ensures.after in
+    let g3 = third_stage s past bytes h read s1 s2 s3 s3 r1 r1 e1 e2 f1 e3 in
+    let r2 = c.choose-second.result in
+    let f2 = c.choose-second.ensures b3 (stage_tied _ _ _ _ s3 b3 g3) in
+    let s4 = state c.transfer-2.new.self in
+    let e4 = c.transfer-2.ensures in
+    let g4 = fourth_stage s past bytes h read s1 s2 s3 s4 r1 r2 e1 e2 f1 e3 e4 f2 in
+    omega (arith, g4.slots_had, c.requires.early)
 
-pub write_flags-requires : goal.write_flags-requires
-write_flags-requires c =
-    let g = fourth_stage (state c.args.self.now.real) c.requires.runs.0 c.args.lines.now c.requires.runs.1 c.requires.read (state c.arrive-turned_away.new.self) (state c.transfer.new.self) (state c.depart-left.new.self) (state c.transfer-2.new.self) c.choose-first.result c.choose-second.result c.arrive-turned_away.ensures.after c.transfer.ensures (c.choose-first.ensures (one (state c.args.self.now.real) c.requires.runs.0 c.args.lines.now c.requires.runs.1 c.requires.read) (stage_tied _ _ _ _ (state c.arrive-turned_away.new.self) (one (state c.args.self.now.real) c.requires.runs.0 c.args.lines.now c.requires.runs.1 c.requires.read) (first_stage (state c.args.self.now.real) c.requires.runs.0 c.args.lines.now c.requires.runs.1 c.requires.read (state c.arrive-turned_away.new.self) c.arrive-turned_away.ensures.after))) c.depart-left.ensures.after c.transfer-2.ensures (c.choose-second.ensures (three (state c.args.self.now.real) c.requires.runs.0 c.args.lines.now c.requires.runs.1 c.requires.read) (stage_tied _ _ _ _ (state c.depart-left.new.self) (three (state c.args.self.now.real) c.requires.runs.0 c.args.lines.now c.requires.runs.1 c.requires.read) (third_stage (state c.args.self.now.real) c.requires.runs.0 c.args.lines.now c.requires.runs.1 c.requires.read (state c.arrive-turned_away.new.self) (state c.transfer.new.self) (state c.depart-left.new.self) (state c.depart-left.new.self) c.choose-first.result c.choose-first.result c.arrive-turned_away.ensures.after c.transfer.ensures (c.choose-first.ensures (one (state c.args.self.now.real) c.requires.runs.0 c.args.lines.now c.requires.runs.1 c.requires.read) (stage_tied _ _ _ _ (state c.arrive-turned_away.new.self) (one (state c.args.self.now.real) c.requires.runs.0 c.args.lines.now c.requires.runs.1 c.requires.read) (first_stage (state c.args.self.now.real) c.requires.runs.0 c.args.lines.now c.requires.runs.1 c.requires.read (state c.arrive-turned_away.new.self) c.arrive-turned_away.ensures.after))) c.depart-left.ensures.after))) in
+pub slice_bounds-turned_away-end : goal.slice_bounds-turned_away-end
+slice_bounds-turned_away-end c =
+    let all : length c.arrive-turned_away.result ≡ 32 = search rules in
     let few = c.requires.runs.1.good.few in
-    let p = ap (λ (z : State). z.lines) c.pass.ensures in
-    let d = c.depart-left.ensures.short in
-    let t = ap (λ (z : State). z.lines) c.transfer.ensures ∙ transferred_lines (state c.arrive-turned_away.new.self).lines _ (state c.arrive-turned_away.new.self) in
-    let u = ap (λ (z : State). z.lines) c.arrive-turned_away.ensures.after ∙ all_lines _ _ (state c.args.self.now.real) in
-    (omega (arith, c.lines.ensures, g.lines), omega (arith, c.lines.ensures, g.lines, c.write_byte-begun.ensures.next))
+    omega (arith, c.lines-inputs.ensures, all)
+
+pub push_flags-requires : goal.push_flags-requires
+push_flags-requires c =
+    let s = state c.args.self.now.real in
+    let past = c.requires.runs.0 in
+    let bytes = c.args.lines.now in
+    let h = c.requires.runs.1 in
+    let read = c.requires.read in
+    let b1 = one s past bytes h read in
+    let s1 = state c.arrive-turned_away.new.self in
+    let e1 = c.arrive-turned_away.ensures.after in
+    let g1 = first_stage s past bytes h read s1 e1 in
+    let r1 = c.choose-first.result in
+    let f1 = c.choose-first.ensures b1 (stage_tied _ _ _ _ s1 b1 g1) in
+    let s2 = state c.transfer.new.self in
+    let e2 = c.transfer.ensures in
+    let s3 = state c.depart.new.self in
+    let b3 = three s past bytes h read in
+    let e3 = c.depart.ensures.after in
+    let g3 = third_stage s past bytes h read s1 s2 s3 s3 r1 r1 e1 e2 f1 e3 in
+    let g2 = second_stage s past bytes h read s1 s2 s3 s2 r1 r1 e1 e2 f1 e3 in
+    omega (arith, c.lines-inputs.ensures, g2.lines, h.good.few, c.depart.ensures.short, ap (λ (d : Draft). d.len) c.begin.ensures, length-take c.lines-inputs.result c.arrive-turned_away.result)
 
 pub returns : goal.returns
-returns c =
-    λ past h.
-    let g = fourth_stage (state c.args.self.now.real) past c.args.lines.now h c.requires.read (state c.arrive-turned_away.new.self) (state c.transfer.new.self) (state c.depart-left.new.self) (state c.transfer-2.new.self) c.choose-first.result c.choose-second.result c.arrive-turned_away.ensures.after c.transfer.ensures (c.choose-first.ensures (one (state c.args.self.now.real) past c.args.lines.now h c.requires.read) (stage_tied _ _ _ _ (state c.arrive-turned_away.new.self) (one (state c.args.self.now.real) past c.args.lines.now h c.requires.read) (first_stage (state c.args.self.now.real) past c.args.lines.now h c.requires.read (state c.arrive-turned_away.new.self) c.arrive-turned_away.ensures.after))) c.depart-left.ensures.after c.transfer-2.ensures (c.choose-second.ensures (three (state c.args.self.now.real) past c.args.lines.now h c.requires.read) (stage_tied _ _ _ _ (state c.depart-left.new.self) (three (state c.args.self.now.real) past c.args.lines.now h c.requires.read) (third_stage (state c.args.self.now.real) past c.args.lines.now h c.requires.read (state c.arrive-turned_away.new.self) (state c.transfer.new.self) (state c.depart-left.new.self) (state c.depart-left.new.self) c.choose-first.result c.choose-first.result c.arrive-turned_away.ensures.after c.transfer.ensures (c.choose-first.ensures (one (state c.args.self.now.real) past c.args.lines.now h c.requires.read) (stage_tied _ _ _ _ (state c.arrive-turned_away.new.self) (one (state c.args.self.now.real) past c.args.lines.now h c.requires.read) (first_stage (state c.args.self.now.real) past c.args.lines.now h c.requires.read (state c.arrive-turned_away.new.self) c.arrive-turned_away.ensures.after))) c.depart-left.ensures.after))) in
-    let n : c.lines.result ≡ c.args.self.now.real.lines = c.lines.ensures ∙ (ap (λ (z : State). z.lines) c.pass.ensures ∙ g.lines) in
-    subst (λ (z : State). Serves (Shows z) 16448 c.args.self.now.real.lines past (slot_lines c.args.self.now.real.lines c.args.lines.now) (lent_to (state c.args.self.now.real).mem) (lent_to z.mem) c.write_flags.result c.args.out.now c.write_flags.new.out) (sym c.pass.ensures)
-    (slot_served (state c.args.self.now.real) past c.args.lines.now h c.requires.read (state c.arrive-turned_away.new.self) (state c.transfer.new.self) (state c.depart-left.new.self) (state c.transfer-2.new.self) c.choose-first.result c.choose-second.result c.arrive-turned_away.ensures.after c.transfer.ensures (c.choose-first.ensures (one (state c.args.self.now.real) past c.args.lines.now h c.requires.read) (stage_tied _ _ _ _ (state c.arrive-turned_away.new.self) (one (state c.args.self.now.real) past c.args.lines.now h c.requires.read) (first_stage (state c.args.self.now.real) past c.args.lines.now h c.requires.read (state c.arrive-turned_away.new.self) c.arrive-turned_away.ensures.after))) c.depart-left.ensures.after c.transfer-2.ensures (c.choose-second.ensures (three (state c.args.self.now.real) past c.args.lines.now h c.requires.read) (stage_tied _ _ _ _ (state c.depart-left.new.self) (three (state c.args.self.now.real) past c.args.lines.now h c.requires.read) (third_stage (state c.args.self.now.real) past c.args.lines.now h c.requires.read (state c.arrive-turned_away.new.self) (state c.transfer.new.self) (state c.depart-left.new.self) (state c.depart-left.new.self) c.choose-first.result c.choose-first.result c.arrive-turned_away.ensures.after c.transfer.ensures (c.choose-first.ensures (one (state c.args.self.now.real) past c.args.lines.now h c.requires.read) (stage_tied _ _ _ _ (state c.arrive-turned_away.new.self) (one (state c.args.self.now.real) past c.args.lines.now h c.requires.read) (first_stage (state c.args.self.now.real) past c.args.lines.now h c.requires.read (state c.arrive-turned_away.new.self) c.arrive-turned_away.ensures.after))) c.depart-left.ensures.after))) c.args.out.now c.write_byte-begun.new.out c.depart-left.new.out c.write_flags.new.out c.write_byte-begun.result c.depart-left.result c.write_flags.result c.arrive-turned_away.result (search rules) c.arrive-turned_away.ensures.away
-    (answer_begins c.args.out.now c.write_byte-begun.new.out c.write_byte-begun.result c.write_byte-begun.ensures.bytes c.write_byte-begun.ensures.next)
-    c.depart-left.ensures.bytes c.depart-left.ensures.next
-    (λ ds w. subst (λ (k : ℕ). Written c.args.out.now c.write_flags.new.out c.write_flags.result ds (take k c.arrive-turned_away.result)) n (c.write_flags.ensures.bytes c.args.out.now ds w)))
+returns c past h =
+    let s = state c.args.self.now.real in
+    let bytes = c.args.lines.now in
+    let read = c.requires.read in
+    let b1 = one s past bytes h read in
+    let s1 = state c.arrive-turned_away.new.self in
+    let e1 = c.arrive-turned_away.ensures.after in
+    let g1 = first_stage s past bytes h read s1 e1 in
+    let r1 = c.choose-first.result in
+    let f1 = c.choose-first.ensures b1 (stage_tied _ _ _ _ s1 b1 g1) in
+    let s2 = state c.transfer.new.self in
+    let e2 = c.transfer.ensures in
+    let s3 = state c.depart.new.self in
+    let b3 = three s past bytes h read in
+    let e3 = c.depart.ensures.after in
+    let g3 = third_stage s past bytes h read s1 s2 s3 s3 r1 r1 e1 e2 f1 e3 in
+    let r2 = c.choose-second.result in
+    let f2 = c.choose-second.ensures b3 (stage_tied _ _ _ _ s3 b3 g3) in
+    let s4 = state c.transfer-2.new.self in
+    let e4 = c.transfer-2.ensures in
+    let g4 = fourth_stage s past bytes h read s1 s2 s3 s4 r1 r2 e1 e2 f1 e3 e4 f2 in
+    subst (λ (z : State). Serves (Shows z) 16448 s.lines past (slot_lines s.lines bytes) (lent_to s.mem) (lent_to z.mem) c.args.answer.now c.push_flags.new.self) (sym c.pass.ensures)
+    (slot_served s past bytes h read s1 s2 s3 s4 r1 r2 e1 e2 f1 e3 e4 f2 c.args.answer.now c.begin.new.self c.depart.new.answer c.push_flags.new.self c.arrive-turned_away.result (search rules) c.arrive-turned_away.ensures.away c.begin.ensures c.depart.ensures.answer
+    (c.push_flags.ensures ∙ ap (λ (k : ℕ). appended (flag_bytes (take k c.arrive-turned_away.result)) c.depart.new.answer) c.lines-inputs.ensures))

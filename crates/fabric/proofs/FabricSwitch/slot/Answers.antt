@@ -19,5 +19,5 @@ serve_slot-requires c =
 
 pub returns : goal.returns
 returns c n past ls h e =
-    serves (state c.args.self.now.real) (state c.serve_slot.new.self.real) n past ls c.args.lines.now c.serve_slot.result c.args.out.now c.serve_slot.new.out h e
+    serves (state c.args.self.now.real) (state c.serve_slot.new.self.real) n past ls c.args.lines.now c.args.answer.now c.serve_slot.new.answer h e
     c.serve_slot.ensures

@@ -1,5 +1,6 @@
-use Rattle.std.proofs.Common.{◌≡◌, ℕ, ◌+◌, ◌*◌, ◌≤◌, List, []}
-use Rattle.words.specs.Answer.{Written}
+use Rattle.std.proofs.Common.{◌≡◌, ◌+◌, ◌*◌, ◌≤◌}
+use Rattle.words.specs.Writing.{appended}
+use Rattle.words.specs.Answer.{leaving_all}
 use Rattle.ideal.specs.State.{state}
 use Rattle.ideal.specs.Steps.{departed, departures}
 use Rattle.ideal.proofs.IdealBox.depart_all.Given as goal
@@ -7,5 +8,5 @@ use Rattle.ideal.proofs.IdealBox.depart_all.Given as goal
 abbrev pub invariant-loop-output : goal.invariant-loop-output
 invariant-loop-output l =
     (state l.self ≡ departed l.output (state l.initial.self)) ×
-    (l.next ≤ l.initial.next + 69 * l.output) ×
-    ((start : List ℕ) → Written start l.initial.out l.initial.next [] [] → Written start l.out l.next (departures l.output (state l.initial.self).mem) [])
+    (l.answer ≡ appended (leaving_all (departures l.output (state l.initial.self).mem)) l.initial.answer) ×
+    (l.answer.len ≤ l.initial.answer.len + 69 * l.output)
