@@ -10,10 +10,7 @@ ghost use Rattle.crowd.specs.Parts.{part_size, part, behind, part_of};
 
 use crate::{Crowd, Due};
 use crossbox::{Arrival, Cell};
-use words::NONE;
-
-// The bytes of a departure: its input, the slot in which it arrived, and what it carries.
-const DEPARTURE: usize = 69;
+use words::{DEPARTURE_BYTES, NONE};
 
 impl<'a> Crowd<'a> {
     // How many lines there are; 0 before the first settings.
@@ -80,10 +77,7 @@ impl<'a> Crowd<'a> {
         requires set { 0 < (state self.now).real.lines }
         ensures { IfSome result (λ choice. (st : Status) → Shows (state self.now) st → (ls : List Line) × (judge (lines_of st) 0 false lines.now ≡ Ok ls) × (Ok tt ≡ judge_choice (lines_of st) (arrivals_of ls) (box_in st)) × (choice_of choice ≡ arrivals_of ls)) }
     {
-        match self.choose(lines) {
-            Ok(choice) => Some(choice),
-            Err(_) => None,
-        }
+        self.choose(lines).ok()
     }
 
     // The cell that a choice transfers from an input: those of all inputs are the picks.
@@ -113,7 +107,7 @@ fn part_size(bytes: &[u8]) -> usize
     if *first == NONE {
         return 1;
     }
-    bytes.len().min(DEPARTURE)
+    bytes.len().min(DEPARTURE_BYTES)
 }
 
 // The part at the front of bytes.
@@ -121,18 +115,8 @@ pub fn next_part(bytes: &[u8]) -> Part<'_>
     ensures part { result.bytes.now ≡ part bytes.now }
     ensures rest { result.rest.now ≡ behind bytes.now }
 {
-    let size = part_size(bytes);
-    Part {
-        bytes: &bytes[0..size],
-        rest: &bytes[size..],
-    }
-}
-
-// Whether two rows of bytes are the same.
-fn same_bytes(a: &[u8], b: &[u8]) -> bool
-    ensures { Decides result (a.now ≡ b.now) }
-{
-    a == b
+    let (bytes, rest) = bytes.split_at(part_size(bytes));
+    Part { bytes, rest }
 }
 
 // By output, whether two answers of n lines tell of another departure; both are given behind their first byte.
@@ -148,7 +132,7 @@ pub fn differs(real: &[u8], ideal: &[u8], n: u8) -> [bool; 32]
     for output in 0..n {
         let one = next_part(a);
         let other = next_part(b);
-        found[output as usize] = !same_bytes(one.bytes, other.bytes);
+        found[output as usize] = one.bytes != other.bytes;
         a = one.rest;
         b = other.rest;
     }
