@@ -12,10 +12,10 @@ use Rattle.crossbox.specs.Ideal.{first}
 use Rattle.crossbox.specs.Box.{Box, for_output}
 use Rattle.crossbox.specs.Promise.{Fits}
 use Rattle.words.specs.declared.fault.Fault.TheVariants.{NotWaiting, SharedOutput, Unstable}
-use Rattle.cioq.specs.Bits.{is_set}
+use Rattle.bits.specs.Bits.{is_set}
 use Rattle.cioq.specs.Choice.{first_for, named, also, picks, waits_in, all_wait, is_named, named_before, is_new, one_output, beats, settled, all_settled, gets_of, table_of, noted, judge_choice}
 use Rattle.cioq.specs.Transfers.{position}
-use Rattle.cioq.proofs.Sets.{none-set}
+use Rattle.bits.proofs.Sets.{none-set}
 use Rattle.cioq.proofs.Named.{named_in}
 use Rattle.cioq.proofs.Transfers.{all_wait_at}
 use Rattle.cioq.proofs.Transferred.{one_output_at}

@@ -1,7 +1,6 @@
 pub mod Room
 pub mod Begun
 pub mod Lists
-pub mod Sets
 pub mod Seeking
 pub mod Arrivals
 pub mod Arrived

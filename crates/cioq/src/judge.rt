@@ -8,8 +8,8 @@ ghost use Rattle.cioq.specs.Choice.{choice_of, waits_in, all_wait, is_named, one
 ghost use Rattle.cioq.specs.Named.{StableIsNamed};
 
 use crate::RealBox;
-use crate::bits::{has, with};
 use crate::search::{first_for, is_earlier};
+use bits::{has, with};
 use crossbox::{Arrival, Cell};
 use words::Fault;
 

@@ -3,14 +3,13 @@
 
 ghost use Rattle.std.specs.Prelude.{◌≡◌, ℕ, ◌<◌, ◌≤◌, true, not, ◌&&◌, ◌||◌, if◌then◌else◌, ◌==◌, nat_lt, slice_index};
 ghost use Rattle.crossbox.specs.Box.{Box};
-ghost use Rattle.matching.specs.Bits.{is_set};
+ghost use Rattle.bits.specs.Bits.{is_set};
 ghost use Rattle.matching.specs.Table.{Ties, Finds};
 ghost use Rattle.matching.specs.Asking.{names, Small, key_of, Earliest, prefers_in};
 
-mod bits;
 mod table;
 
-use crate::bits::{lowest, with, without, without_lowest};
+use bits::{lowest, with, without, without_lowest};
 use crossbox::Arrival;
 
 // How many inputs and how many outputs the table has.

@@ -3,8 +3,8 @@ ghost use Rattle.std.specs.Prelude.{◌≡◌, ℕ, ◌<◌, List, [], length};
 ghost use Rattle.crossbox.specs.declared.Cell.{Cell};
 ghost use Rattle.matching.specs.Making.{TableOf, grown};
 
-use crate::bits::{has, with};
 use crate::{Firsts, LINES};
+use bits::{has, with};
 use crossbox::Cell;
 
 // Zeros, as many as the array has room for.

@@ -1,6 +1,6 @@
 use Rattle.std.proofs.Common.{arith}
 use Rattle.std.proofs.lemmas.Bool.Decides.{nat_tests}
-use Rattle.matching.proofs.Sets.{none-set}
+use Rattle.bits.proofs.Sets.{none-set}
 use Rattle.matching.proofs.askers.Goals as goal
 
 pub loop-o-init : goal.loop-o-init

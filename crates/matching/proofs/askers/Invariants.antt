@@ -1,5 +1,5 @@
 use Rattle.std.proofs.Common.{◌≡◌, ℕ, not, ◌&&◌, eqb, ltb, get_or}
-use Rattle.matching.specs.Bits.{is_set}
+use Rattle.bits.specs.Bits.{is_set}
 use Rattle.matching.proofs.askers.Given as goal
 
 abbrev pub invariant-loop-o : goal.invariant-loop-o

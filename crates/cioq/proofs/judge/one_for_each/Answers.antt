@@ -24,7 +24,7 @@ returns-then-has c =
 
 pub loop-input-preserved : goal.loop-input-preserved
 loop-input-preserved c =
-    seen_more c.loop-input.outputs c.with-outputs.result c.loop-input.input c.in-For.output (choice_of c.args.choice.now) c.in-For.is (sym c.has.ensures ∙ c.if-has.false) c.with-outputs.ensures c.loop-input.invariant
+    seen_more c.loop-input.outputs c.with-outputs.result c.loop-input.input c.in-For.output (choice_of c.args.choice.now) c.in-For.is (sym c.has.ensures ∙ c.if-has.false) c.with-outputs.ensures.bits c.loop-input.invariant
 
 pub returns : goal.returns
 returns c =
