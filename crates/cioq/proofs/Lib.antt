@@ -11,6 +11,8 @@ pub mod Named
 pub mod Places
 pub mod Transferred
 pub mod Judging
+pub mod Inputs
+pub mod Choosing
 pub mod Judged
 pub mod StableNamed
 pub mod Printed
