@@ -11,7 +11,6 @@ pub mod Named
 pub mod Places
 pub mod Transferred
 pub mod Judging
-pub mod Inputs
 pub mod Choosing
 pub mod Judged
 pub mod StableNamed

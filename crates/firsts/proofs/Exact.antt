@@ -3,7 +3,7 @@ use Rattle.std.proofs.Common.{◌≡◌, ℕ, zero, suc, ◌+◌, ◌-◌, ◌*�
 use lib.Bits.{bit_or, bit_xor}
 use mir.Val.{bool_byte}
 use Rattle.std.proofs.lemmas.List.Edits.{map_over_more}
-use Rattle.std.proofs.lemmas.List.{length-append, length-map, length-take, length-drop}
+use Rattle.std.proofs.lemmas.List.{length-append, length-map, length-take, length-drop, length-replicate, get_or-replicate, ext_get_or}
 use Rattle.std.proofs.lemmas.Bool.{cond-true, cond-false}
 use Rattle.crossbox.specs.declared.Cell.{Cell}
 use Rattle.firsts.specs.declared.Firsts.{Firsts}
@@ -43,6 +43,11 @@ module _ (xs ys : List ℕ) (i k : ℕ) (l : i < length xs) where
       ∙ map_over_more (sooner k) xs ys i (get_or ys i 0) l e (any_default ys i 0 (get_or ys i 0) (omega (arith, ap length e, as_long (sooner k) i xs)))
 
 -- a table with no cell
+-- zeros, as many as the array has room for
+pub zeros_are : (xs : List ℕ) (n : ℕ) → length xs ≡ n → ((k : ℕ) → k < n → get_or xs k 0 ≡ 0) → xs ≡ replicate n 0
+zeros_are xs n e h =
+    ext_get_or 0 xs (replicate n 0) (e ∙ sym (length-replicate n 0)) (λ k l. h k (omega arith) ∙ sym (get_or-replicate n k 0 0 (omega arith)))
+
 pub none_is : (slots places : List ℕ) → slots ≡ replicate 1024 0 → places ≡ replicate 1024 0 → ◌≡◌ {A = Firsts} (record { waiting = replicate 32 0; slots = slots; places = places }) none
 none_is slots places e f = rw (e, f) refl
 

@@ -54,10 +54,9 @@ fn earliest(slots: &[u32; 1024], o: u8, inputs: u32) -> u8
     let first = lowest(inputs);
     let mut least = key(slots, o, first);
     let mut rest = without_lowest(inputs);
+    // The bits of a set, one by one: an iterator type for this one loop is no plainer.
     while rest != 0 {
-        let i = lowest(rest);
-        let at_i = key(slots, o, i);
-        least = least.min(at_i);
+        least = least.min(key(slots, o, lowest(rest)));
         rest = without_lowest(rest);
     }
     (least % LINES as u64) as u8
@@ -104,8 +103,8 @@ fn askers(waiting: &[u32; 32], n: u8) -> u32
     ensures { (p : ℕ) → is_set result p ≡ (nat_lt p n && not (slice_index waiting.now p == 0)) }
 {
     let mut asking = 0;
-    for o in 0..n {
-        asking = with_asker(asking, o, waiting[o as usize]);
+    for (o, &inputs) in (0..n).zip(waiting) {
+        asking = with_asker(asking, o, inputs);
     }
     asking
 }

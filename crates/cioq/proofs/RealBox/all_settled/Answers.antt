@@ -1,8 +1,8 @@
 use Rattle.std.proofs.Common.{rules, tests, ℕ, ◌<◌, ap, ◌∙◌, arith}
-use Rattle.std.proofs.lemmas.Iterator.{YieldsList-from_range, YieldsList-from_slice, YieldsList-from_zip}
 use Rattle.std.proofs.lemmas.Iterator.Adapters.{serves_from_places}
 use Rattle.std.proofs.lemmas.Iterator.Search.{all_from_yields_List}
 use Rattle.crossbox.specs.declared.Arrival.{Arrival}
+use Rattle.crossbox.proofs.Lines.{each_line}
 use Rattle.buffer.specs.Memory.{view}
 use Rattle.cioq.specs.Spells.{box_of}
 use Rattle.cioq.specs.Choice.{table_of, settled}
@@ -13,7 +13,7 @@ pub all-requires-clause-callable : goal.all-requires-clause-callable
 all-requires-clause-callable c =
     let n = c.args.self.now.lines in
     serves_from_places {s = c.zip.result}
-    (YieldsList-from_zip (YieldsList-from_range 0 n n c.zip.ensures.first (omega arith)) (YieldsList-from_slice c.args.choice.now c.zip.ensures.second.0))
+    (each_line n c.args.choice.now c.zip.result c.zip.ensures.first c.zip.ensures.second.0)
     (λ y q r. search (rules, tests))
     (λ y k l e.
     let i = input_there 0 n k c.args.choice.now (y.0, y.1.now) l in
@@ -28,5 +28,5 @@ returns c =
     let b = box_of n (view c.args.self.now.memory) in
     let few = c.requires.good.few in
     all_from_yields_List {s = c.zip.result} (λ (p : ℕ × Arrival). settled gets p.1 (b.waiting p.0)) c.all.new.self _ c.all.result c.all.ensures.ran
-    (YieldsList-from_zip (YieldsList-from_range 0 n n c.zip.ensures.first (omega arith)) (YieldsList-from_slice c.args.choice.now c.zip.ensures.second.0)) (λ x r q k. search (rules, tests))
+    (each_line n c.args.choice.now c.zip.result c.zip.ensures.first c.zip.ensures.second.0) (λ x r q k. search (rules, tests))
     ∙ all_settled-listed n gets c.args.choice.now b (omega (arith, c.told-choice))

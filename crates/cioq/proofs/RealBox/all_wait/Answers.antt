@@ -1,7 +1,7 @@
 use Rattle.std.proofs.Common.{rules, tests, ℕ, ◌∙◌, arith}
-use Rattle.std.proofs.lemmas.Iterator.{YieldsList-from_range, YieldsList-from_slice, YieldsList-from_zip}
 use Rattle.std.proofs.lemmas.Iterator.Search.{all_from_yields_List}
 use Rattle.crossbox.specs.declared.Arrival.{Arrival}
+use Rattle.crossbox.proofs.Lines.{each_line}
 use Rattle.buffer.specs.Memory.{view}
 use Rattle.cioq.specs.Spells.{box_of}
 use Rattle.cioq.specs.Choice.{waits_in}
@@ -14,5 +14,5 @@ returns c =
     let b = box_of n (view c.args.self.now.memory) in
     let few = c.requires.good.few in
     all_from_yields_List {s = c.zip.result} (λ (p : ℕ × Arrival). waits_in p.1 (b.waiting p.0)) c.all.new.self _ c.all.result c.all.ensures.ran
-    (YieldsList-from_zip (YieldsList-from_range 0 n n c.zip.ensures.first (omega arith)) (YieldsList-from_slice c.args.choice.now c.zip.ensures.second.0)) (λ x r q k. search (rules, tests))
+    (each_line n c.args.choice.now c.zip.result c.zip.ensures.first c.zip.ensures.second.0) (λ x r q k. search (rules, tests))
     ∙ all_wait-listed n c.args.choice.now b (omega (arith, c.told-choice))
