@@ -1,5 +1,5 @@
 -- Laws of bits: the lowest that is set, and what setting or clearing one does.
-use Rattle.std.proofs.Common.{◌≡◌, ℕ, zero, suc, ◌+◌, ◌-◌, ◌*◌, ◌/◌, ◌%◌, ◌^◌, ◌<◌, min, max, w32, true, false, cond, not, ◌&&◌, ◌||◌, eqb, sym, refl, ap, ◌∙◌, subst, inl, inr, pow-suc, arith}
+use Rattle.std.proofs.Common.{◌≡◌, ℕ, zero, suc, ◌+◌, ◌-◌, ◌*◌, ◌/◌, ◌%◌, ◌^◌, ◌<◌, min, w32, true, false, cond, not, ◌&&◌, ◌||◌, eqb, sym, refl, ap, ◌∙◌, subst, inl, inr, pow-suc, arith}
 use native.Mathlib.Nat.{zero-min, min-zero}
 use lib.Bits.{bit_and, bit_or, bit_xor, and_step, and_self, xor_add_and}
 use lib.Count.{count_trailing_zeros, under}
@@ -120,9 +120,6 @@ lowest_one x k t l h f =
             | inr a ↦ absurd (both_ways (is_set x k) (f k a) l.here)
           ]
     ]
-
-pub without_lowest_less : (x : ℕ) → 0 < x → x < 2 ^ 32 → bit_and x (x - 1) < x
-without_lowest_less x p h = let e = clear_of 32 x p h in let q = pow_pos (count_trailing_zeros 32 x) in omega arith
 
 pub without_lowest_is : (x : ℕ) → 0 < x → x < 2 ^ 32 → (k j : ℕ) → Lowest x k → is_set (bit_and x (x - 1)) j ≡ (not (eqb j k) && is_set x j)
 without_lowest_is x p h k j l =

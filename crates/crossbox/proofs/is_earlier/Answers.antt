@@ -1,5 +1,4 @@
-use Rattle.std.proofs.Common.{rules, arith}
-use Rattle.std.proofs.lemmas.Bool.Decides.{nat_tests}
+use Rattle.std.proofs.Common.{rules}
 use Rattle.crossbox.specs.Cells.{earlier}
 use Rattle.crossbox.proofs.is_earlier.Goals as goal
 

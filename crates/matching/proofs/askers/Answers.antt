@@ -1,8 +1,8 @@
-use Rattle.std.proofs.Common.{◌≡◌, ℕ, ◌∷◌, [], length, not, ◌&&◌, eqb, ltb, get_or, sym, ap, ◌∙◌, arith}
+use Rattle.std.proofs.Common.{◌≡◌, ℕ, ◌∷◌, [], length, get_or, sym, ap, ◌∙◌, arith}
 use Rattle.std.proofs.lemmas.Bool.Decides.{nat_tests}
 use Rattle.std.proofs.lemmas.List.{length-append}
 use Rattle.bits.proofs.Sets.{none-set}
-use Rattle.crossbox.proofs.Lines.{line_turn, lines_end}
+use Rattle.crossbox.proofs.Lines.{line_turn}
 use Rattle.matching.proofs.askers.Goals as goal
 
 pub loop-o-init : goal.loop-o-init
@@ -23,7 +23,3 @@ loop-o-preserved c p =
     let before = c.loop-o.invariant p in
     let at = a.1.0 in
     grind (arith, nat_tests, same, long, now, before, at)
-
-pub returns : goal.returns
-returns c p =
-    c.loop-o.invariant p ∙ ap (λ (k : ℕ). ltb p k && not (eqb (get_or c.args.waiting.now p 0) 0)) (lines_end c.args.n c.args.waiting.now c.zip-o-items.result c.zip-o-items.ensures.first c.zip-o-items.ensures.second.0 (omega (arith, c.requires, c.told-waiting)) c.into_iter-o-iterator.result c.into_iter-o-iterator.ensures.into_iter_gives c.loop-o.yielded c.loop-o.o-iterator c.next.new.self c.next.result c.loop-o.yielded_by c.next.ensures.steps c.in-None.is)

@@ -5,8 +5,8 @@ use Rattle.crossbox.specs.declared.Arrival.{Arrival}
 use Rattle.crossbox.specs.declared.Cell.{Cell}
 use Rattle.buffer.specs.Memory.{view}
 use Rattle.cioq.specs.Spells.{box_of}
-use Rattle.cioq.specs.Choice.{choice_of, gets_of, named, noted, picks}
-use Rattle.crossbox.proofs.Lines.{line_turn, lines_end}
+use Rattle.cioq.specs.Choice.{choice_of, named, noted}
+use Rattle.crossbox.proofs.Lines.{line_turn}
 use Rattle.cioq.proofs.Judging.{Table, table_none, table_more, named_there}
 use Rattle.cioq.proofs.RealBox.gets.Goals as goal
 
@@ -50,8 +50,3 @@ loop-input-preserved c =
     let e : c.named_at.result ≡ named (ch k) (b.waiting k) = c.named_at.ensures ∙ ap₂ (λ (x : Arrival) (i : ℕ). named x (b.waiting i)) a.1.1 a.1.0 in
     subst (λ (j : ℕ). Table c.loop-input.gets j ch b) (sym (length-append c.loop-input.yielded ((c.in-Some.input, c.in-Some.field-0-1) ∷ [])))
     (table_more c.loop-input.gets c.loop-input.gets k ch b c.named_at.result e (ap (λ (x : Option Cell). noted x c.loop-input.gets) (sym c.in_default.is)) c.loop-input.invariant)
-
-pub returns : goal.returns
-returns c =
-    let b = box_of c.args.self.now.lines (view c.args.self.now.memory) in
-    λ o h. c.loop-input.invariant.1 o h ∙ ap (λ (n : ℕ). gets_of (picks n (choice_of c.args.choice.now) b) o) (lines_end c.args.self.now.lines c.args.choice.now c.zip-input-items.result c.zip-input-items.ensures.first c.zip-input-items.ensures.second.0 (omega (arith, c.requires.good.few, c.told-choice)) c.into_iter-input-iterator.result c.into_iter-input-iterator.ensures.into_iter_gives c.loop-input.yielded c.loop-input.input-iterator c.next.new.self c.next.result c.loop-input.yielded_by c.next.ensures.steps c.in-None.is)

@@ -17,16 +17,6 @@ returns-in_err-k c =
     let f : place_of_first c.in-For.output l ≡ None = search rules in
     search rules ∙ sym (ap (λ (x : Arrival). named x l) c.in-For.is ∙ none_named c.in-For.output l (found_none c.in-For.output l f))
 
-pub cell-requires : goal.cell-requires
-cell-requires c =
-    let m = view c.args.self.now.memory in
-    let l = cells m c.args.input in
-    let few = c.requires.good.few in
-    let there = c.requires.there in
-    let n = cells-length m c.args.input c.requires.good.sound (omega (arith, c.requires.good.rows)) in
-    let f : place_of_first c.in-For.output l ≡ Some c.in_ok-k.k = search rules in
-    (omega arith, (c.requires.good.sound, (omega arith, omega (arith, (found_is c.in-For.output c.in_ok-k.k l f).1))))
-
 pub returns : goal.returns
 returns c =
     let m = view c.args.self.now.memory in

@@ -5,7 +5,7 @@ use Rattle.cioq.specs.State.{state}
 use Rattle.cioq.specs.Spells.{cells}
 use Rattle.cioq.specs.Choice.{choice_of}
 use Rattle.cioq.specs.Transfers.{Sends, transfer_one, transfer_all}
-use Rattle.crossbox.proofs.Lines.{line_turn, lines_end}
+use Rattle.crossbox.proofs.Lines.{line_turn}
 use Rattle.cioq.proofs.Transfers.{transfer-none, step_good, step_lines, step_sends, step_after}
 use Rattle.cioq.proofs.RealBox.transfer.Goals as goal
 
@@ -39,7 +39,3 @@ loop-input-preserved c =
     step_after ch s t k c.requires.good c.requires.fits c.requires.waits a.0 c.loop-input.invariant _ x.now a.1.1
     (c.transfer_one.ensures ∙ ap (λ (i : ℕ). transfer_one i x.now t) a.1.0)
     ∙ ap (λ (i : ℕ). transfer_all i ch s) (sym (length-append c.loop-input.yielded ((c.in-Some.input, x) ∷ [])))
-
-pub returns : goal.returns
-returns c =
-    c.loop-input.invariant ∙ ap (λ (i : ℕ). transfer_all i (choice_of c.args.choice.now) (state c.args.self.now)) (lines_end c.args.self.now.lines c.args.choice.now c.zip-input-items.result c.zip-input-items.ensures.first c.zip-input-items.ensures.second.0 (omega (arith, c.requires.good.few, c.told-choice)) c.into_iter-input-iterator.result c.into_iter-input-iterator.ensures.into_iter_gives c.loop-input.yielded c.loop-input.input-iterator c.next.new.self c.next.result c.loop-input.yielded_by c.next.ensures.steps c.in-None.is)
