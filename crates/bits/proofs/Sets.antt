@@ -1,131 +1,85 @@
 -- Laws of bits: the lowest that is set, and what setting or clearing one does.
-use Rattle.std.proofs.Common.{◌≡◌, ℕ, zero, suc, ◌+◌, ◌-◌, ◌*◌, ◌/◌, ◌%◌, ◌^◌, ◌<◌, min, true, false, cond, not, ◌&&◌, ◌||◌, eqb, sym, refl, ap, ◌∙◌, subst, ap₂, inl, inr, pow-suc, div-one, one-add, arith}
-use native.Mathlib.Nat.{zero-div, zero-min, min-zero}
-use lib.Bits.{bit_and, bit_or, bit_xor, and_step, and_self, and_block, xor_add_and, and_zero_r}
+use Rattle.std.proofs.Common.{◌≡◌, ℕ, zero, suc, ◌+◌, ◌-◌, ◌*◌, ◌/◌, ◌%◌, ◌^◌, ◌<◌, min, w32, true, false, cond, not, ◌&&◌, ◌||◌, eqb, sym, refl, ap, ◌∙◌, subst, inl, inr, pow-suc, arith}
+use native.Mathlib.Nat.{zero-min, min-zero}
+use lib.Bits.{bit_and, bit_or, bit_xor, and_step, and_self, xor_add_and}
 use lib.Count.{count_trailing_zeros, under}
-use Rattle.std.proofs.lemmas.Nat.{pow_pos, shr-shr, shr_split, or_shr, or_mod, xor_shr, xor_mod, and_mask, mod_below}
-use Rattle.std.proofs.lemmas.Bool.{both_ways, cases_order, eqb-true, eq-eqb}
+use Rattle.std.specs.Int.{bit_at}
+use Rattle.std.proofs.lemmas.Nat.{pow_pos, mod_below}
+use Rattle.std.proofs.lemmas.Nat.Bits.{bit_at_lowest, bit_at-suc, bit_at-zero, bit_at-lt, bit_at_or, bit_at_xor, bit_at-pow_same, bit_at-pow_other, bit_at-trailing_zeros, and_pow}
+use Rattle.std.proofs.lemmas.Bool.{both_ways, cases_eq, cases_order, eqb-true, eq-eqb}
 use Rattle.std.proofs.lemmas.Bool.Decides.{nat_tests}
 use Rattle.bits.specs.Bits.{is_set, Lowest}
 
--- the lowest bit, and the bits above it
-
-set-zero : (x : ℕ) → is_set x 0 ≡ eqb (x % 2) 1
+-- a bit that is set is a 1
+set-is : (x k : ℕ) → is_set x k ≡ eqb (bit_at x k) 1
 unfolding is_set
-set-zero x = ap (λ z. eqb (z % 2) 1) (div-one x)
+set-is x k = refl
 
-set-suc : (x k : ℕ) → is_set x (suc k) ≡ is_set (x / 2) k
+one-set : (x k : ℕ) → is_set x k ≡ true → bit_at x k ≡ 1
 unfolding is_set
-set-suc x k = ap (λ z. eqb (x / 2 ^ z % 2) 1) (sym (one-add k)) ∙ ap (λ z. eqb (z % 2) 1) (sym (shr-shr x 1 k))
+one-set x k h = eqb-true (bit_at x k) 1 h
 
 pub none-set : (k : ℕ) → is_set 0 k ≡ false
 unfolding is_set
-none-set k = ap (λ z. eqb (z % 2) 1) (zero-div (2 ^ k))
+none-set k = ap (λ z. eqb z 1) (bit_at-zero k)
 
 -- the lowest bit that is set
-
-abbrev LowestOf : ℕ → ℕ → ℕ → Type 0
-LowestOf k x t = (t < k) × (is_set x t ≡ true) × ((j : ℕ) → j < t → is_set x j ≡ false)
-
-lowest_under : (k x d t : ℕ) → 0 < x → x % 2 ≡ d → (0 < x / 2 → LowestOf k (x / 2) t) → LowestOf (suc k) x (under d t)
-lowest_under k x zero t p e f =
-    let g = f (omega arith) in (
-      omega (arith, g.0),
-      set-suc x t ∙ g.1,
-      λ (j : ℕ) h. low j h,
-    )
-  where
-    low : (j : ℕ) → j < suc t → is_set x j ≡ false
-    low zero h = set-zero x ∙ ap (λ z. eqb z 1) e
-    low (suc j) h = set-suc x j ∙ (f (omega arith)).2 j (omega arith)
-lowest_under k x (suc d) t p e f = (
-  omega arith,
-  set-zero x ∙ eq-eqb (x % 2) 1 (let l = mod_below x 2 (omega arith) in omega arith),
-  λ (j : ℕ) h. absurd (omega arith),
-)
-
-lowest_of : (k x : ℕ) → 0 < x → x < 2 ^ k → LowestOf k x (count_trailing_zeros k x)
-unfolding count_trailing_zeros
-lowest_of zero x p h = absurd (omega arith)
-lowest_of (suc k) x p h =
-    lowest_under k x (x % 2) (count_trailing_zeros k (x / 2)) p refl (λ q. lowest_of k (x / 2) q (let e = pow-suc 2 k in omega arith))
-
 pub lowest_is : (x : ℕ) → 0 < x → x < 2 ^ 32 → Lowest x (count_trailing_zeros 32 x)
-lowest_is x p h = let l = lowest_of 32 x p h in record { small = l.0; here = l.1; below = l.2 }
+unfolding is_set
+lowest_is x p h =
+    let l = bit_at-trailing_zeros w32 x p h in
+    record { small = l.0; here = eq-eqb (bit_at x (count_trailing_zeros 32 x)) 1 l.1; below = λ j i. ap (λ z. eqb z 1) (l.2 j i) }
+
+-- a number that is not 0 has a bit that is set
+some_below : (f x : ℕ) → 0 < x → x < 2 ^ f → (k : ℕ) × (bit_at x k ≡ 1)
+some_below zero x p h = absurd (omega arith)
+some_below (suc f) x p h =
+    let e = pow-suc 2 f in
+    elim (cases_eq (x % 2) 1) [
+      | inl o ↦ (0, bit_at_lowest x ∙ o)
+      | inr o ↦ let k = some_below f (x / 2) (omega arith) (omega arith) in (suc k.0, bit_at-suc x k.0 ∙ k.1)
+    ]
 
 below_pow : (x : ℕ) → x < 2 ^ x
 below_pow zero = omega arith
 below_pow (suc x) = let h = below_pow x in let e = pow-suc 2 x in omega arith
 
--- a number that is not 0 has a bit that is set
 pub some-set : (x : ℕ) → 0 < x → (k : ℕ) × (is_set x k ≡ true)
-some-set x p = (count_trailing_zeros x x, (lowest_of x x p (below_pow x)).1)
+some-set x p = let k = some_below x x p (below_pow x) in (k.0, set-is x k.0 ∙ eq-eqb (bit_at x k.0) 1 k.1)
 
 -- the bits of a power
-
-pub set-pow : (k j : ℕ) → is_set (2 ^ k) j ≡ eqb j k
-set-pow zero zero = set-zero 1
-set-pow zero (suc j) = set-suc 1 j ∙ (none-set j ∙ grind (arith, nat_tests))
-set-pow (suc k) zero = set-zero (2 ^ suc k) ∙ (let e = pow-suc 2 k in grind (arith, nat_tests))
-set-pow (suc k) (suc j) =
-    set-suc (2 ^ suc k) j ∙ (ap (λ z. is_set z j) (let e = pow-suc 2 k in omega arith) ∙ (set-pow k j ∙ grind (arith, nat_tests)))
-
--- bits of a sum of sets
-
-or-digit : (x y : ℕ) → x < 2 → y < 2 → eqb (bit_or x y) 1 ≡ (eqb x 1 || eqb y 1)
-or-digit zero zero p q = refl
-or-digit zero (suc zero) p q = refl
-or-digit (suc zero) zero p q = refl
-or-digit (suc zero) (suc zero) p q = refl
-or-digit (suc (suc x)) y p q = absurd (omega arith)
-or-digit zero (suc (suc y)) p q = absurd (omega arith)
-or-digit (suc zero) (suc (suc y)) p q = absurd (omega arith)
-
-xor-digit : (x y : ℕ) → x < 2 → y < 2 → eqb (bit_xor x y) 1 ≡ cond (eqb y 1) (not (eqb x 1)) (eqb x 1)
-xor-digit zero zero p q = refl
-xor-digit zero (suc zero) p q = refl
-xor-digit (suc zero) zero p q = refl
-xor-digit (suc zero) (suc zero) p q = refl
-xor-digit (suc (suc x)) y p q = absurd (omega arith)
-xor-digit zero (suc (suc y)) p q = absurd (omega arith)
-xor-digit (suc zero) (suc (suc y)) p q = absurd (omega arith)
-
-set-or : (a b j : ℕ) → is_set (bit_or a b) j ≡ (is_set a j || is_set b j)
-unfolding is_set
-set-or a b j =
-    ap (λ z. eqb (z % 2) 1) (or_shr a b j) ∙ (ap (λ z. eqb z 1) (or_mod (a / 2 ^ j) (b / 2 ^ j) 1) ∙ or-digit (a / 2 ^ j % 2) (b / 2 ^ j % 2) (mod_below (a / 2 ^ j) 2 (omega arith)) (mod_below (b / 2 ^ j) 2 (omega arith)))
-
-set-xor : (a b j : ℕ) → is_set (bit_xor a b) j ≡ cond (is_set b j) (not (is_set a j)) (is_set a j)
-unfolding is_set
-set-xor a b j =
-    ap (λ z. eqb (z % 2) 1) (xor_shr a b j) ∙ (ap (λ z. eqb z 1) (xor_mod (a / 2 ^ j) (b / 2 ^ j) 1) ∙ xor-digit (a / 2 ^ j % 2) (b / 2 ^ j % 2) (mod_below (a / 2 ^ j) 2 (omega arith)) (mod_below (b / 2 ^ j) 2 (omega arith)))
+set-pow : (k j : ℕ) → bit_at (2 ^ k) j ≡ cond (eqb j k) 1 0
+set-pow k j =
+    elim (cases_eq j k) [
+      | inl e ↦ let h : bit_at (2 ^ k) j ≡ 1 = ap (λ (z : ℕ). bit_at (2 ^ k) z) e ∙ bit_at-pow_same k in grind (arith, nat_tests, h)
+      | inr e ↦ let h = bit_at-pow_other k j e in grind (arith, nat_tests, h)
+    ]
 
 -- one bit set, and one cleared
-
 pub with_is : (x k m : ℕ) → m ≡ 2 ^ k → (j : ℕ) → is_set (bit_or x m) j ≡ (eqb j k || is_set x j)
 with_is x k m e j =
-    let a = set-or x m j in
-    let b : is_set m j ≡ eqb j k = ap (λ z. is_set z j) e ∙ set-pow k j in
-    grind (arith, a, b)
+    let a = bit_at_or x m j in
+    let b : bit_at m j ≡ cond (eqb j k) 1 0 = ap (λ z. bit_at z j) e ∙ set-pow k j in
+    let l = bit_at-lt x j in
+    let p = set-is x j in
+    let q = set-is (bit_or x m) j in
+    grind (arith, nat_tests, a, b, l, p, q)
 
 pub without_is : (x k m : ℕ) → m ≡ 2 ^ k → is_set x k ≡ true → (j : ℕ) → is_set (bit_xor x m) j ≡ (not (eqb j k) && is_set x j)
 without_is x k m e h j =
-    let a = set-xor x m j in
-    let b : is_set m j ≡ eqb j k = ap (λ z. is_set z j) e ∙ set-pow k j in
+    let a = bit_at_xor x m j in
+    let b : bit_at m j ≡ cond (eqb j k) 1 0 = ap (λ z. bit_at z j) e ∙ set-pow k j in
     let f : eqb j k ≡ true → is_set x j ≡ true = λ q. ap (λ z. is_set x z) (eqb-true j k q) ∙ h in
-    grind (arith, a, b, f)
-
-and_pow : (x k : ℕ) → is_set x k ≡ true → bit_and x (2 ^ k) ≡ 2 ^ k
-unfolding is_set
-and_pow x k h =
-    let d = eqb-true (x / 2 ^ k % 2) 1 h in
-    let p : 1 * 2 ^ k + 0 ≡ 2 ^ k = omega arith in
-    ap₂ (λ y z. bit_and y z) (sym (shr_split x k)) (sym p)
-    ∙ (and_block k (x / 2 ^ k) 1 (x % 2 ^ k) 0 (mod_below x (2 ^ k) (pow_pos k)) (pow_pos k)
-    ∙ (ap₂ (λ y z. y * 2 ^ k + z) (and_mask (x / 2 ^ k) 1 ∙ d) (and_zero_r (x % 2 ^ k)) ∙ p))
+    let l = bit_at-lt x j in
+    let p = set-is x j in
+    let q = set-is (bit_xor x m) j in
+    grind (arith, nat_tests, a, b, f, l, p, q)
 
 xor-pow : (x k : ℕ) → is_set x k ≡ true → bit_xor x (2 ^ k) + 2 ^ k ≡ x
-xor-pow x k h = let a = xor_add_and x (2 ^ k) in let b = and_pow x k h in omega arith
+xor-pow x k h =
+    let a = xor_add_and x (2 ^ k) in
+    let b = and_pow x k ∙ ap (λ (z : ℕ). z * 2 ^ k) (one-set x k h) in
+    omega arith
 
 pub without-less : (x k m : ℕ) → m ≡ 2 ^ k → is_set x k ≡ true → bit_xor x m < x
 without-less x k m e h =
@@ -167,13 +121,10 @@ lowest_one x k t l h f =
           ]
     ]
 
-pub without_lowest_less : (x : ℕ) → 0 < x → x < 2 ^ 32 → bit_and x (x - 1) < x
-without_lowest_less x p h = let e = clear_of 32 x p h in let q = pow_pos (count_trailing_zeros 32 x) in omega arith
-
 pub without_lowest_is : (x : ℕ) → 0 < x → x < 2 ^ 32 → (k j : ℕ) → Lowest x k → is_set (bit_and x (x - 1)) j ≡ (not (eqb j k) && is_set x j)
 without_lowest_is x p h k j l =
     let t = count_trailing_zeros 32 x in
-    let low = lowest_of 32 x p h in
-    let q : t ≡ k = lowest_one x k t l low.1 low.2 in
-    let e : bit_and x (x - 1) ≡ bit_xor x (2 ^ t) = (let a = clear_of 32 x p h in let b = xor-pow x t low.1 in omega arith) in
+    let low = lowest_is x p h in
+    let q : t ≡ k = lowest_one x k t l low.here low.below in
+    let e : bit_and x (x - 1) ≡ bit_xor x (2 ^ t) = (let a = clear_of 32 x p h in let b = xor-pow x t low.here in omega arith) in
     ap (λ z. is_set z j) (e ∙ ap (λ z. bit_xor x (2 ^ z)) q) ∙ without_is x k (2 ^ k) refl l.here j

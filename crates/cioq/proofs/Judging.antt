@@ -1,7 +1,7 @@
 -- The test of a choice, loop by loop.
-use Rattle.std.proofs.Common.{◌≡◌, ℕ, zero, suc, ◌+◌, ◌<◌, ◌≤◌, Bool, true, false, cond, not, ◌&&◌, ◌||◌, eqb, ltb, List, [], ◌∷◌, length, get_or, drop, set, replicate, Some, None, Ok, Err, Option, sym, refl, ap, ◌∙◌, subst, inl, inr, add-one, arith}
+use Rattle.std.proofs.Common.{◌≡◌, ℕ, zero, suc, ◌+◌, ◌<◌, Bool, true, false, cond, not, ◌&&◌, ◌||◌, eqb, ltb, List, [], ◌∷◌, length, get_or, set, replicate, Some, None, Ok, Err, Option, sym, refl, ap, ◌∙◌, subst, inl, inr, add-one, arith}
 use Rattle.std.specs.List.{AllByRecursion}
-use Rattle.std.proofs.lemmas.List.{length-set, get_or-set_same, get_or-set_other, at_drop_more, at_drop_all, get_or-replicate}
+use Rattle.std.proofs.lemmas.List.{length-set, get_or-set_same, get_or-set_other, get_or-replicate}
 use Rattle.std.proofs.lemmas.Bool.{cases_eq, cases_Bool, and_parts}
 use Rattle.std.proofs.lemmas.Bool.Decides.{nat_tests}
 use Rattle.crossbox.specs.declared.Arrival.{Arrival}
@@ -12,12 +12,11 @@ use Rattle.crossbox.specs.Ideal.{first}
 use Rattle.crossbox.specs.Box.{Box, for_output}
 use Rattle.crossbox.specs.Promise.{Fits}
 use Rattle.words.specs.declared.fault.Fault.TheVariants.{NotWaiting, SharedOutput, Unstable}
-use Rattle.cioq.specs.Bits.{is_set}
-use Rattle.cioq.specs.Choice.{first_for, named, also, picks, waits_in, all_wait, is_named, named_before, is_new, one_output, beats, settled, all_settled, gets_of, table_of, noted, judge_choice}
+use Rattle.bits.specs.Bits.{is_set}
+use Rattle.cioq.specs.Choice.{first_for, named, also, picks, all_wait, is_named, named_before, is_new, one_output, beats, settled, all_settled, gets_of, table_of, noted, judge_choice}
 use Rattle.cioq.specs.Transfers.{position}
-use Rattle.cioq.proofs.Sets.{none-set}
+use Rattle.bits.proofs.Sets.{none-set}
 use Rattle.cioq.proofs.Named.{named_in}
-use Rattle.cioq.proofs.Transfers.{all_wait_at}
 use Rattle.cioq.proofs.Transferred.{one_output_at}
 
 -- what is named waits just where its position is within the list
@@ -36,24 +35,6 @@ none_named o (c ∷ l) h =
           let z : cond (eqb c.output o) 0 (suc (position o l)) ≡ suc (position o l) = ap (λ (w : Bool). cond w 0 (suc (position o l))) t in
           ap (λ (w : Bool). first (cond w (c ∷ for_output o l) (for_output o l))) t ∙ none_named o l (omega arith)
     ]
-
--- what holds at each of the first inputs
-
-pub wait_none : (ch : Arrivals) (b : Box) → all_wait 0 ch b ≡ true
-unfolding all_wait
-wait_none ch b = refl
-
-pub wait_more : (k : ℕ) (ch : Arrivals) (b : Box) → waits_in (ch k) (b.waiting k) ≡ true → all_wait k ch b ≡ true → all_wait (k + 1) ch b ≡ true
-unfolding all_wait
-wait_more k ch b w h = ap (λ (n : ℕ). all_wait n ch b) (add-one k) ∙ (ap (λ (t : Bool). t && all_wait k ch b) w ∙ h)
-
-pub wait_not : (n k : ℕ) (ch : Arrivals) (b : Box) → k < n → waits_in (ch k) (b.waiting k) ≡ false → false ≡ all_wait n ch b
-wait_not n k ch b h w =
-    elim (cases_Bool (all_wait n ch b)) [ inl t ↦ absurd (let z = all_wait_at n k ch b t h in grind arith) | inr t ↦ sym t ]
-
-pub one_none : (ch : Arrivals) → one_output 0 ch ≡ true
-unfolding one_output
-one_none ch = refl
 
 pub one-not : (n k : ℕ) (ch : Arrivals) (o : ℕ) → k < n → ch k ≡ For o → named_before k ch o ≡ true → false ≡ one_output n ch
 one-not n k ch o h e b =
@@ -129,35 +110,7 @@ table_more gets more k ch b x e q h = (
 pub named_there : (n k : ℕ) (ch : Arrivals) (l : List Cell) (x : Option Cell) → x ≡ named (ch k) l → Fits n ch → k < n → (c : Cell) → x ≡ Some c → c.output < n
 named_there n k ch l x e f h c q = f k c.output h (named_in (ch k) l c (sym e ∙ q)).1
 
--- one list, cell by cell
-module _ (gets : ℕ → Option Cell) (x : Arrival) (l : List Cell) (k : ℕ) (c : Cell) (e : get_or l k c ≡ c) (h : k < length l) where
-  settled_at : settled gets x (drop k l) ≡ (is_named c.output x || (beats (gets c.output) c && settled gets x (drop (k + 1) l)))
-  unfolding settled
-  settled_at =
-      at_drop_more (settled gets x) l k c h
-      ∙ ap (λ (d : Cell). is_named d.output x || (beats (gets d.output) d && settled gets x (drop (k + 1) l))) e
-
-  pub settled-sent : is_named c.output x ≡ true → settled gets x (drop k l) ≡ true
-  settled-sent t = let s = settled_at in grind (arith, s)
-
-  pub settled-not : is_named c.output x ≡ false → beats (gets c.output) c ≡ false → settled gets x (drop k l) ≡ false
-  settled-not t u = let s = settled_at in grind (arith, s)
-
-  pub settled_on : is_named c.output x ≡ false → beats (gets c.output) c ≡ true → settled gets x (drop k l) ≡ settled gets x (drop (k + 1) l)
-  settled_on t u = let s = settled_at in grind (arith, s)
-
-pub settled_end : (gets : ℕ → Option Cell) (x : Arrival) (l : List Cell) (k : ℕ) → length l ≤ k → settled gets x (drop k l) ≡ true
-unfolding settled
-settled_end gets x l k h = at_drop_all (settled gets x) l k h
-
-pub all_settled-none : (gets : ℕ → Option Cell) (ch : Arrivals) (b : Box) → all_settled 0 gets ch b ≡ true
-unfolding all_settled
-all_settled-none gets ch b = refl
-
-pub all_settled-more : (k : ℕ) (gets : ℕ → Option Cell) (ch : Arrivals) (b : Box) → settled gets (ch k) (b.waiting k) ≡ true → all_settled k gets ch b ≡ true → all_settled (k + 1) gets ch b ≡ true
-unfolding all_settled
-all_settled-more k gets ch b w h = ap (λ (n : ℕ). all_settled n gets ch b) (add-one k) ∙ (ap (λ (t : Bool). t && all_settled k gets ch b) w ∙ h)
-
+-- a list of which all is settled
 pub all_settled_at : (n k : ℕ) (gets : ℕ → Option Cell) (ch : Arrivals) (b : Box) → all_settled n gets ch b ≡ true → k < n → settled gets (ch k) (b.waiting k) ≡ true
 unfolding all_settled
 all_settled_at zero k gets ch b h l = absurd (omega arith)
@@ -167,10 +120,6 @@ all_settled_at (suc n) k gets ch b h l =
       | inl e ↦ subst (λ (z : ℕ). settled gets (ch z) (b.waiting z) ≡ true) (sym e) p.0
       | inr ne ↦ all_settled_at n k gets ch b p.1 (omega arith)
     ]
-
-pub all_settled-not : (n k : ℕ) (gets : ℕ → Option Cell) (ch : Arrivals) (b : Box) → k < n → settled gets (ch k) (b.waiting k) ≡ false → false ≡ all_settled n gets ch b
-all_settled-not n k gets ch b h w =
-    elim (cases_Bool (all_settled n gets ch b)) [ inl t ↦ absurd (let z = all_settled_at n k gets ch b t h in grind arith) | inr t ↦ sym t ]
 
 -- tables that agree on the outputs of waiting cells settle alike
 settled_alike : (f g : ℕ → Option Cell) (x : Arrival) (l : List Cell) → ((o : ℕ) → o < 32 → f o ≡ g o) → AllByRecursion (λ (c : Cell). c.output < 32) l → settled f x l ≡ settled g x l

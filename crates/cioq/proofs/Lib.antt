@@ -1,7 +1,6 @@
 pub mod Room
 pub mod Begun
 pub mod Lists
-pub mod Sets
 pub mod Seeking
 pub mod Arrivals
 pub mod Arrived
@@ -12,6 +11,7 @@ pub mod Named
 pub mod Places
 pub mod Transferred
 pub mod Judging
+pub mod Choosing
 pub mod Judged
 pub mod StableNamed
 pub mod Printed

@@ -4,6 +4,5 @@ pub mod Arrivals
 pub mod Departures
 pub mod Choice
 pub mod Transfers
-pub mod Bits
 pub mod Kept
 pub mod Named

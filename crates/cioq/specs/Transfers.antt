@@ -1,5 +1,5 @@
 -- What a choice leaves in memory, input by input. Assumes nothing.
-use Rattle.std.specs.Prelude.{ℕ, zero, suc, ◌+◌, ◌-◌, ◌<◌, cond, List, [], ◌∷◌, length, ◌==◌}
+use Rattle.std.specs.Prelude.{ℕ, zero, suc, ◌+◌, ◌-◌, ◌<◌, cond, List, [], ◌∷◌, length, Some, None, Option, ◌==◌, nat_lt}
 use Rattle.std.specs.List.{suffix_len}
 use Rattle.crossbox.specs.declared.Arrival.{Arrival}
 use Rattle.crossbox.specs.declared.Arrival.TheVariants.{Nothing, For}
@@ -14,6 +14,10 @@ use Rattle.cioq.specs.Spells.{cells}
 unfoldable pub position : ℕ → List Cell → ℕ
 position o [] = 0
 position o (c ∷ l) = cond (c.output == o) 0 (suc (position o l))
+
+-- behind how many cells of a list its first for output o stands, if it has one
+abbrev pub place_of_first : ℕ → List Cell → Option ℕ
+place_of_first o l = cond (nat_lt (position o l) (length l)) (Some (position o l)) None
 
 -- nothing is named, or the first cell for an output that is there, and it waits in this list
 abbrev pub Sends : ℕ → Arrival → List Cell → Type 0

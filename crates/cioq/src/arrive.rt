@@ -1,5 +1,5 @@
 // Arrivals: each cell is put into the list of its input, or turned away.
-ghost use Rattle.std.specs.Prelude.{◌≡◌, ℕ, ◌^◌, ◌<◌, min, false, ◌&&◌, Ok, nat_lt, slice_index_or};
+ghost use Rattle.std.specs.Prelude.{◌≡◌, ℕ, ◌^◌, ◌<◌, false, ◌&&◌, Ok, nat_lt, slice_index_or};
 ghost use Rattle.words.specs.Lines.{judge, verdict};
 ghost use Rattle.cioq.specs.State.{state, Good};
 ghost use Rattle.cioq.specs.Arrivals.{Brings, admit_one, turned_away, admit_all, away, slot_lines};
@@ -7,13 +7,6 @@ ghost use Rattle.cioq.specs.Arrivals.{Brings, admit_one, turned_away, admit_all,
 use crate::{ROOM, RealBox};
 use crossbox::{Arrival, Cell};
 use words::{BODY, body_of, read_entry};
-
-// The smaller of two numbers.
-fn smaller(a: usize, b: usize) -> usize
-    ensures { result ≡ min a b }
-{
-    if a < b { a } else { b }
-}
 
 impl<'a> RealBox<'a> {
     // Puts what arrives by an input into its list; true where 256 cells are held for its output, and the cell is turned away.
@@ -32,7 +25,8 @@ impl<'a> RealBox<'a> {
         if count >= ROOM {
             return true;
         }
-        let k = smaller(self.memory.len(self.lines + output), self.memory.len(input));
+        let stored = self.memory.len(self.lines + output);
+        let k = stored.min(self.memory.len(input));
         let cell = Cell {
             slot: self.now as u32,
             input,

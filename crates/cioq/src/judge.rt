@@ -8,9 +8,9 @@ ghost use Rattle.cioq.specs.Choice.{choice_of, waits_in, all_wait, is_named, one
 ghost use Rattle.cioq.specs.Named.{StableIsNamed};
 
 use crate::RealBox;
-use crate::bits::{has, with};
-use crate::search::{first_for, is_earlier};
-use crossbox::{Arrival, Cell};
+use crate::search::first_for;
+use bits::{has, with};
+use crossbox::{Arrival, Cell, is_earlier};
 use words::Fault;
 
 // A choice is taken just where each cell that it names waits, and it is stable.
@@ -30,8 +30,8 @@ fn one_for_each(lines: u8, choice: &[Arrival; 32]) -> bool
     ensures { result ≡ one_output lines (choice_of choice.now) }
 {
     let mut outputs = 0u32;
-    for input in 0..lines {
-        let Arrival::For(output) = choice[input as usize] else {
+    for &arrival in choice.iter().take(usize::from(lines)) {
+        let Arrival::For(output) = arrival else {
             continue;
         };
         if has(outputs, output) {
@@ -40,37 +40,6 @@ fn one_for_each(lines: u8, choice: &[Arrival; 32]) -> bool
         outputs = with(outputs, output);
     }
     true
-}
-
-// Whether a cell for an output is named.
-fn names(arrival: Arrival, output: u8) -> bool
-    ensures { result ≡ is_named output arrival }
-{
-    match arrival {
-        Arrival::Nothing => false,
-        Arrival::For(named) => named == output,
-    }
-}
-
-// Whether a cell is there, and earlier than another.
-fn leads(first: Option<Cell>, cell: Cell) -> bool
-    ensures { result ≡ beats first cell }
-{
-    match first {
-        None => false,
-        Some(other) => is_earlier(other, cell),
-    }
-}
-
-// Notes the cell that an output gets.
-fn note(gets: &mut [Option<Cell>; 32], picked: Option<Cell>)
-    requires { (c : _) → picked ≡ Some c → c.output < 32 }
-    ensures { gets.new ≡ noted picked gets.old }
-{
-    let Some(cell) = picked else {
-        return;
-    };
-    gets[cell.output as usize] = Some(cell);
 }
 
 impl<'a> RealBox<'a> {
@@ -83,10 +52,7 @@ impl<'a> RealBox<'a> {
         let Arrival::For(output) = arrival else {
             return None;
         };
-        let k = first_for(&self.memory, input, output);
-        if k == self.memory.len(input) {
-            return None;
-        }
+        let k = first_for(&self.memory, input, output)?;
         Some(self.memory.cell(input, k))
     }
 
@@ -99,7 +65,7 @@ impl<'a> RealBox<'a> {
         let Arrival::For(output) = arrival else {
             return true;
         };
-        first_for(&self.memory, input, output) < self.memory.len(input)
+        first_for(&self.memory, input, output).is_some()
     }
 
     // Whether every cell that is named waits.
@@ -107,12 +73,9 @@ impl<'a> RealBox<'a> {
         requires good { Good (state self.now) }
         ensures { result ≡ all_wait (state self.entry.now).lines (choice_of choice.now) (box_of (state self.entry.now).lines (state self.entry.now).mem) }
     {
-        for input in 0..self.lines {
-            if !self.waits(input, choice[input as usize]) {
-                return false;
-            }
-        }
-        true
+        (0..self.lines)
+            .zip(choice)
+            .all(|(input, &arrival)| self.waits(input, arrival))
     }
 
     // By output, the cell that it gets.
@@ -122,9 +85,10 @@ impl<'a> RealBox<'a> {
         ensures { (o : ℕ) → o < 32 → table_of result o ≡ gets_of (picks (state self.entry.now).lines (choice_of choice.now) (box_of (state self.entry.now).lines (state self.entry.now).mem)) o }
     {
         let mut gets = [None; 32];
-        for input in 0..self.lines {
-            let picked = self.named_at(input, choice[input as usize]);
-            note(&mut gets, picked);
+        for (input, &arrival) in (0..self.lines).zip(choice) {
+            if let Some(cell) = self.named_at(input, arrival) {
+                gets[cell.output as usize] = Some(cell);
+            }
         }
         gets
     }
@@ -136,17 +100,10 @@ impl<'a> RealBox<'a> {
         requires aimed { AllByRecursion (λ c. c.output < 32) (cells (state self.now).mem input) }
         ensures { result ≡ settled (table_of gets.now) arrival (cells (state self.entry.now).mem input) }
     {
-        let len = self.memory.len(input);
-        for k in 0..len {
-            let cell = self.memory.cell(input, k);
-            if names(arrival, cell.output) {
-                return true;
-            }
-            if !leads(gets[cell.output as usize], cell) {
-                return false;
-            }
-        }
-        true
+        (0..self.memory.len(input))
+            .map(|k| self.memory.cell(input, k))
+            .take_while(|cell| arrival != Arrival::For(cell.output))
+            .all(|cell| gets[cell.output as usize].is_some_and(|other| is_earlier(other, cell)))
     }
 
     // Whether that holds of every list.
@@ -155,12 +112,9 @@ impl<'a> RealBox<'a> {
         requires aimed { Aimed (state self.now) }
         ensures { result ≡ all_settled (state self.entry.now).lines (table_of gets.now) (choice_of choice.now) (box_of (state self.entry.now).lines (state self.entry.now).mem) }
     {
-        for input in 0..self.lines {
-            if !self.settled(input, choice[input as usize], gets) {
-                return false;
-            }
-        }
-        true
+        (0..self.lines)
+            .zip(choice)
+            .all(|(input, &arrival)| self.settled(input, arrival, gets))
     }
 
     // The lowest fault of a choice: a cell that does not wait, two for one output, or one that is left behind without a reason.

@@ -8,7 +8,6 @@ ghost use Rattle.cioq.specs.State.{State, state, Good, unset, begun, passed};
 ghost use Rattle.cioq.specs.Spells.{box_of};
 
 mod arrive;
-mod bits;
 mod depart;
 mod judge;
 mod kept;

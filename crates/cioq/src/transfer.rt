@@ -18,7 +18,7 @@ impl<'a> RealBox<'a> {
         requires waits { position output (cells (state self.now).mem input) < length (cells (state self.now).mem input) }
         ensures { state self.exit.now ≡ sent input output (state self.entry.now) }
     {
-        let k = first_for(&self.memory, input, output);
+        let k = first_for(&self.memory, input, output).unwrap();
         let cell = self.memory.cell(input, k);
         let store = self.lines + output;
         let j = place_for(&self.memory, store, cell);
@@ -45,9 +45,8 @@ impl<'a> RealBox<'a> {
         requires waits { all_wait (state self.now).lines (choice_of choice.now) (box_of (state self.now).lines (state self.now).mem) ≡ true }
         ensures { state self.exit.now ≡ transfer_all (state self.entry.now).lines (choice_of choice.now) (state self.entry.now) }
     {
-        let lines = self.lines;
-        for input in 0..lines {
-            self.transfer_one(input, choice[input as usize]);
+        for (input, &arrival) in (0..self.lines).zip(choice) {
+            self.transfer_one(input, arrival);
         }
     }
 }

@@ -13,3 +13,4 @@ pub mod Same
 pub mod Shape
 pub mod Slack
 pub mod Stores
+pub mod Lines

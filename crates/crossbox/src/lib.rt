@@ -10,14 +10,15 @@ ghost use Rattle.crossbox.specs.Shape.{EarliestIsFirst, DepartDropsFirst};
 ghost use Rattle.crossbox.specs.Slack.{ArriveSlack, TransferSlack, DepartSlack};
 
 // What arrives by one input in a slot: nothing, or a cell for an output.
-#[derive(Clone, Copy)]
+// Not an Option<u8>: what arrives is an enum of its own by a rule of the project.
+#[derive(Clone, Copy, PartialEq, Eq)]
 pub enum Arrival {
     Nothing,
     For(u8),
 }
 
 // A cell: the slot in which it arrived, the input by which, and the output for which.
-#[derive(Clone, Copy)]
+#[derive(Clone, Copy, PartialEq, Eq)]
 pub struct Cell {
     pub slot: u32,
     pub input: u8,
@@ -28,7 +29,7 @@ pub struct Cell {
 pub fn is_earlier(a: Cell, b: Cell) -> bool
     ensures { result ≡ earlier a b }
 {
-    a.slot < b.slot || (a.slot == b.slot && a.input < b.input)
+    (a.slot, a.input) < (b.slot, b.input)
 }
 
 // The ideal box as a plain machine has, after any slots, the queues that the definitions speak of.

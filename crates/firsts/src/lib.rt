@@ -7,6 +7,7 @@ ghost use Rattle.firsts.specs.Firsts.{none, later, sooner, stands, noted, after_
 
 use bits::{has, with, without};
 use crossbox::Cell;
+use std::array;
 
 // How many inputs and how many outputs the table has.
 pub const LINES: usize = 32;
@@ -27,19 +28,6 @@ pub struct Firsts {
 pub struct First {
     pub place: u16,
     pub slot: u32,
-}
-
-// Zeros, as many as the array has room for.
-fn zeros_u32<const N: usize>() -> [u32; N]
-    ensures { result ≡ replicate N 0 }
-{
-    [0; N]
-}
-
-fn zeros_u16<const N: usize>() -> [u16; N]
-    ensures { result ≡ replicate N 0 }
-{
-    [0; N]
 }
 
 // Each place of an input's list is one more, from the k-th on.
@@ -67,8 +55,8 @@ impl Firsts {
     {
         Firsts {
             waiting: [0; 32],
-            slots: zeros_u32(),
-            places: zeros_u16(),
+            slots: array::repeat(0),
+            places: array::repeat(0),
         }
     }
 

@@ -9,12 +9,12 @@ use Rattle.crossbox.specs.Matching.{Finding, content, unrefused, wanted, or_else
 use Rattle.crossbox.proofs.Cells.{same_eq, earlier_other}
 use Rattle.crossbox.proofs.Asking.{earliest_in, earliest-none, earliest_least, content-none, is_in-unrefused, next-ended}
 use Rattle.matching.specs.declared.Firsts.{Firsts}
-use Rattle.matching.specs.Bits.{is_set, Lowest}
+use Rattle.bits.specs.Bits.{is_set, Lowest}
 use Rattle.matching.specs.Table.{Ties, first_for}
 use Rattle.matching.specs.Asking.{key_of, Earliest}
 use Rattle.matching.specs.Loop.{State, Tied}
 use Rattle.matching.proofs.Heads.{some_first, some_for, first_in, first-ahead}
-use Rattle.matching.proofs.Sets.{none-set}
+use Rattle.bits.proofs.Sets.{none-set}
 
 -- of two first cells the one with the greater number is not earlier
 key_earlier : (c e : Cell) (x y : ℕ) → x ≡ c.slot * 32 + c.input → y ≡ e.slot * 32 + e.input → c.input < 32 → e.input < 32 → x ≤ y → earlier e c ≡ false

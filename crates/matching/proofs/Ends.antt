@@ -13,12 +13,12 @@ use Rattle.crossbox.proofs.Promise.{found_is_stable}
 use Rattle.crossbox.proofs.Asks.{asks_are_few, finding_ends, ended_stays}
 use Rattle.matching.specs.declared.Firsts.{Firsts}
 use Rattle.matching.specs.declared.Found.{Found}
-use Rattle.matching.specs.Bits.{is_set}
+use Rattle.bits.specs.Bits.{is_set}
 use Rattle.matching.specs.Table.{Ties, Finds, first_for, shown, picked, picks}
 use Rattle.matching.specs.Asking.{Small}
 use Rattle.matching.specs.Loop.{State, Tied}
 use Rattle.matching.proofs.Heads.{first_in, waits_below}
-use Rattle.matching.proofs.Sets.{some-set}
+use Rattle.bits.proofs.Sets.{some-set}
 use Rattle.matching.proofs.Ask.{nobody_asks}
 
 -- before the first ask

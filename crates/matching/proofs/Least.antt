@@ -2,9 +2,9 @@
 use Rattle.std.proofs.Common.{◌≡◌, ℕ, ◌+◌, ◌*◌, ◌%◌, ◌<◌, ◌≤◌, min, true, false, not, ◌&&◌, eqb, List, get_or, sym, ap, ◌∙◌, subst, inl, inr, arith}
 use Rattle.std.proofs.lemmas.Nat.{mod_below, mod-mul-add}
 use Rattle.std.proofs.lemmas.Bool.{cases_eq, both_ways, ne_eqb}
-use Rattle.matching.specs.Bits.{is_set, Lowest}
+use Rattle.bits.specs.Bits.{is_set, Lowest}
 use Rattle.matching.specs.Asking.{key_of, Earliest, LeastSoFar}
-use Rattle.matching.proofs.Sets.{none-set}
+use Rattle.bits.proofs.Sets.{none-set}
 
 -- a number says its input
 number_input : (slots : List ℕ) (o i x : ℕ) → i < 32 → x ≡ key_of slots o i → x % 32 ≡ i

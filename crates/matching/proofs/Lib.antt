@@ -3,5 +3,4 @@ pub mod Ends
 pub mod Heads
 pub mod Making
 pub mod Least
-pub mod Sets
 pub mod Turn

@@ -10,10 +10,10 @@ use Rattle.crossbox.specs.Box.{Box, for_output}
 use Rattle.crossbox.specs.Matching.{some}
 use Rattle.crossbox.specs.Shape.{WellPlaced, InOrder}
 use Rattle.matching.specs.declared.Firsts.{Firsts}
-use Rattle.matching.specs.Bits.{is_set}
+use Rattle.bits.specs.Bits.{is_set}
 use Rattle.matching.specs.Table.{Ties, first_for}
 use Rattle.matching.specs.Making.{TableOf, grown}
-use Rattle.matching.proofs.Sets.{none-set}
+use Rattle.bits.proofs.Sets.{none-set}
 use Rattle.matching.proofs.Heads.{first_in, some_for}
 
 -- lists that are alike have the same table

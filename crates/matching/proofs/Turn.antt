@@ -12,7 +12,7 @@ use Rattle.crossbox.specs.Matching.{Finding, is_for, content, next_ask, prefers,
 use Rattle.crossbox.proofs.Asking.{some_eq, is_for-some, content-some, content-none}
 use Rattle.crossbox.proofs.Finding.{Good}
 use Rattle.matching.specs.declared.Firsts.{Firsts}
-use Rattle.matching.specs.Bits.{is_set}
+use Rattle.bits.specs.Bits.{is_set}
 use Rattle.matching.specs.Table.{Ties, first_for, shown}
 use Rattle.matching.specs.Asking.{names, prefers_in}
 use Rattle.matching.specs.Loop.{may_ask, State, Tied, turned, Turn}

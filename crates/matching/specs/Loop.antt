@@ -6,7 +6,7 @@ use Rattle.crossbox.specs.declared.Cell.{Cell}
 use Rattle.crossbox.specs.Box.{Box}
 use Rattle.crossbox.specs.Matching.{Finding, is_for, content, waits_at}
 use Rattle.matching.specs.declared.Firsts.{Firsts}
-use Rattle.matching.specs.Bits.{is_set, Lowest}
+use Rattle.bits.specs.Bits.{is_set, Lowest}
 use Rattle.matching.specs.Table.{first_for, shown}
 use Rattle.matching.specs.Asking.{names, Earliest, prefers_in}
 

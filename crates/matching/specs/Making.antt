@@ -5,7 +5,7 @@ use Rattle.crossbox.specs.Cells.{ahead}
 use Rattle.crossbox.specs.Box.{for_output}
 use Rattle.crossbox.specs.Matching.{some}
 use Rattle.matching.specs.declared.Firsts.{Firsts}
-use Rattle.matching.specs.Bits.{is_set}
+use Rattle.bits.specs.Bits.{is_set}
 use Rattle.matching.specs.Table.{first_for}
 
 -- a table has the first cell for each output of each of these lists

@@ -10,7 +10,7 @@ use Rattle.crossbox.specs.Shape.{WellPlaced, InOrder}
 use Rattle.crossbox.specs.Matching.{Finding, after_asks, waits_at, pairs, with_kept, find}
 use Rattle.matching.specs.declared.Firsts.{Firsts}
 use Rattle.matching.specs.declared.Found.{Found}
-use Rattle.matching.specs.Bits.{is_set}
+use Rattle.bits.specs.Bits.{is_set}
 
 -- the first cell of a list that is for output o
 abbrev pub first_for : ℕ → List Cell → Option Cell

@@ -3,14 +3,13 @@
 
 ghost use Rattle.std.specs.Prelude.{◌≡◌, ℕ, ◌<◌, ◌≤◌, true, not, ◌&&◌, ◌||◌, if◌then◌else◌, ◌==◌, nat_lt, slice_index};
 ghost use Rattle.crossbox.specs.Box.{Box};
-ghost use Rattle.matching.specs.Bits.{is_set};
+ghost use Rattle.bits.specs.Bits.{is_set};
 ghost use Rattle.matching.specs.Table.{Ties, Finds};
 ghost use Rattle.matching.specs.Asking.{names, Small, key_of, Earliest, prefers_in};
 
-mod bits;
 mod table;
 
-use crate::bits::{lowest, with, without, without_lowest};
+use bits::{lowest, with, without, without_lowest};
 use crossbox::Arrival;
 
 // How many inputs and how many outputs the table has.
@@ -55,10 +54,9 @@ fn earliest(slots: &[u32; 1024], o: u8, inputs: u32) -> u8
     let first = lowest(inputs);
     let mut least = key(slots, o, first);
     let mut rest = without_lowest(inputs);
+    // The bits of a set, one by one: an iterator type for this one loop is no plainer.
     while rest != 0 {
-        let i = lowest(rest);
-        let at_i = key(slots, o, i);
-        least = least.min(at_i);
+        least = least.min(key(slots, o, lowest(rest)));
         rest = without_lowest(rest);
     }
     (least % LINES as u64) as u8
@@ -105,8 +103,8 @@ fn askers(waiting: &[u32; 32], n: u8) -> u32
     ensures { (p : ℕ) → is_set result p ≡ (nat_lt p n && not (slice_index waiting.now p == 0)) }
 {
     let mut asking = 0;
-    for o in 0..n {
-        asking = with_asker(asking, o, waiting[o as usize]);
+    for (o, &inputs) in (0..n).zip(waiting) {
+        asking = with_asker(asking, o, inputs);
     }
     asking
 }

@@ -3,18 +3,10 @@ ghost use Rattle.std.specs.Prelude.{◌≡◌, ℕ, ◌<◌, List, [], length};
 ghost use Rattle.crossbox.specs.declared.Cell.{Cell};
 ghost use Rattle.matching.specs.Making.{TableOf, grown};
 
-use crate::bits::{has, with};
 use crate::{Firsts, LINES};
+use bits::{has, with};
 use crossbox::Cell;
-
-// Zeros, as many as the array has room for.
-fn zeros_u32<const N: usize>() -> [u32; N] {
-    [0; N]
-}
-
-fn zeros_u16<const N: usize>() -> [u16; N] {
-    [0; N]
-}
+use std::array;
 
 impl Firsts {
     // A table of empty lists.
@@ -23,8 +15,8 @@ impl Firsts {
     {
         Firsts {
             waiting: [0; 32],
-            slots: zeros_u32(),
-            places: zeros_u16(),
+            slots: array::repeat(0),
+            places: array::repeat(0),
         }
     }
 

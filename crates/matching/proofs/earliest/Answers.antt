@@ -8,7 +8,7 @@ loop-rest-init c =
 
 pub loop-rest-preserved : goal.loop-rest-preserved
 loop-rest-preserved c =
-    least_more c.args.slots.now c.args.o c.args.inputs c.lowest-i.result c.loop-rest.rest c.without_lowest-rest-in-loop-rest.result c.loop-rest.least c.key-at_i.result c.min-least.result c.loop-rest.invariant c.lowest-i.ensures c.key-at_i.ensures c.min-least.ensures c.without_lowest-rest-in-loop-rest.ensures.bits
+    least_more c.args.slots.now c.args.o c.args.inputs c.lowest.result c.loop-rest.rest c.without_lowest-rest-in-loop-rest.result c.loop-rest.least c.key.result c.min-least.result c.loop-rest.invariant c.lowest.ensures c.key.ensures c.min-least.ensures c.without_lowest-rest-in-loop-rest.ensures.bits
 
 pub returns : goal.returns
 returns c =

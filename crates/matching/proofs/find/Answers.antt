@@ -1,5 +1,4 @@
-use Rattle.std.proofs.Common.{◌≡◌, ℕ, suc, ◌<◌, length, get_or, replicate, sym, refl, ap, ◌∙◌, subst, add-one, arith, length-set}
-use Rattle.std.proofs.lemmas.List.Sums.{sum_by-set}
+use Rattle.std.proofs.Common.{◌≡◌, suc, get_or, replicate, sym, refl, ap, ◌∙◌, subst, add-one, arith, length-set}
 use Rattle.crossbox.specs.declared.Arrival.TheVariants.{Nothing, For}
 use Rattle.crossbox.specs.Matching.{after_asks}
 use Rattle.crossbox.proofs.Finding.{good_after}
@@ -74,12 +73,6 @@ overflow_add-asks c =
     let b = c.requires.1.0 in
     let ties = c.requires.1.1 in
     omega (arith, (c.asks.invariant.2 b ties).1, asks_few c.args.n c.requires.0 b c.args.firsts.now ties c.asks.asks)
-
-pub asks-smaller : goal.asks-smaller
-asks-smaller c =
-    let l : c.lowest-o.result < length c.asks.askable = omega (arith, c.asks.invariant.1, c.lowest-o.ensures.small) in
-    let e = sum_by-set (λ (x : ℕ). x) c.asks.askable c.lowest-o.result c.without.result 0 l in
-    omega (arith, e, c.without.ensures.less)
 
 pub returns : goal.returns
 returns c b ties =

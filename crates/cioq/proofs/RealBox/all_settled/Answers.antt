@@ -1,26 +1,32 @@
-use Rattle.std.proofs.Common.{◌≡◌, ℕ, sym, ap, ◌∙◌, arith}
+use Rattle.std.proofs.Common.{rules, tests, ℕ, ◌<◌, ap, ◌∙◌, arith}
+use Rattle.std.proofs.lemmas.Iterator.Adapters.{serves_from_places}
+use Rattle.std.proofs.lemmas.Iterator.Search.{all_from_yields_List}
+use Rattle.crossbox.specs.declared.Arrival.{Arrival}
+use Rattle.crossbox.proofs.Lines.{each_line}
 use Rattle.buffer.specs.Memory.{view}
 use Rattle.cioq.specs.Spells.{box_of}
-use Rattle.cioq.specs.Choice.{choice_of, table_of, all_settled}
-use Rattle.cioq.proofs.Judging.{all_settled-none, all_settled-more, all_settled-not}
+use Rattle.cioq.specs.Choice.{table_of, settled}
+use Rattle.cioq.proofs.Choosing.{input_there, all_settled-listed}
 use Rattle.cioq.proofs.RealBox.all_settled.Goals as goal
 
-pub loop-input-init : goal.loop-input-init
-loop-input-init c = all_settled-none (table_of c.args.gets.now) (choice_of c.args.choice.now) (box_of c.args.self.now.lines (view c.args.self.now.memory))
-
-pub settled-requires : goal.settled-requires
-settled-requires c =
-    record { good = c.requires.good; there = c.loop-input-test.true; aimed = c.requires.aimed c.loop-input.input c.loop-input-test.true }
-
-pub returns-then-not-settled : goal.returns-then-not-settled
-returns-then-not-settled c =
-    all_settled-not c.args.self.now.lines c.loop-input.input (table_of c.args.gets.now) (choice_of c.args.choice.now) (box_of c.args.self.now.lines (view c.args.self.now.memory)) c.loop-input-test.true (sym c.settled.ensures ∙ c.if-not-settled.true)
-
-pub loop-input-preserved : goal.loop-input-preserved
-loop-input-preserved c =
-    all_settled-more c.loop-input.input (table_of c.args.gets.now) (choice_of c.args.choice.now) (box_of c.args.self.now.lines (view c.args.self.now.memory)) (sym c.settled.ensures ∙ c.if-not-settled.false) c.loop-input.invariant
+pub all-requires-clause-callable : goal.all-requires-clause-callable
+all-requires-clause-callable c =
+    let n = c.args.self.now.lines in
+    serves_from_places {s = c.zip.result}
+    (each_line n c.args.choice.now c.zip.result c.zip.ensures.first c.zip.ensures.second.0)
+    (λ y q r. search (rules, tests))
+    (λ y k l e.
+    let i = input_there 0 n k c.args.choice.now (y.0, y.1.now) l in
+    let h : y.0 < n = omega (arith, i, ap (λ (p : ℕ × Arrival). p.0) e) in
+    let aimed = c.requires.aimed y.0 h in
+    search rules)
 
 pub returns : goal.returns
 returns c =
-    let e : c.loop-input.input ≡ c.args.self.now.lines = omega (arith, c.loop-input-test.false) in
-    sym (ap (λ (n : ℕ). all_settled n (table_of c.args.gets.now) (choice_of c.args.choice.now) (box_of c.args.self.now.lines (view c.args.self.now.memory))) (sym e) ∙ c.loop-input.invariant)
+    let n = c.args.self.now.lines in
+    let gets = table_of c.args.gets.now in
+    let b = box_of n (view c.args.self.now.memory) in
+    let few = c.requires.good.few in
+    all_from_yields_List {s = c.zip.result} (λ (p : ℕ × Arrival). settled gets p.1 (b.waiting p.0)) c.all.new.self _ c.all.result c.all.ensures.ran
+    (each_line n c.args.choice.now c.zip.result c.zip.ensures.first c.zip.ensures.second.0) (λ x r q k. search (rules, tests))
+    ∙ all_settled-listed n gets c.args.choice.now b (omega (arith, c.told-choice))

@@ -1,22 +1,18 @@
-use Rattle.std.proofs.Common.{◌≡◌, ℕ, sym, ap, ◌∙◌, arith}
+use Rattle.std.proofs.Common.{rules, tests, ℕ, ◌∙◌, arith}
+use Rattle.std.proofs.lemmas.Iterator.Search.{all_from_yields_List}
+use Rattle.crossbox.specs.declared.Arrival.{Arrival}
+use Rattle.crossbox.proofs.Lines.{each_line}
 use Rattle.buffer.specs.Memory.{view}
 use Rattle.cioq.specs.Spells.{box_of}
-use Rattle.cioq.specs.Choice.{choice_of, all_wait}
-use Rattle.cioq.proofs.Judging.{wait_none, wait_more, wait_not}
+use Rattle.cioq.specs.Choice.{waits_in}
+use Rattle.cioq.proofs.Choosing.{all_wait-listed}
 use Rattle.cioq.proofs.RealBox.all_wait.Goals as goal
-
-pub loop-input-init : goal.loop-input-init
-loop-input-init c = wait_none (choice_of c.args.choice.now) (box_of c.args.self.now.lines (view c.args.self.now.memory))
-
-pub returns-then-not-waits : goal.returns-then-not-waits
-returns-then-not-waits c =
-    wait_not c.args.self.now.lines c.loop-input.input (choice_of c.args.choice.now) (box_of c.args.self.now.lines (view c.args.self.now.memory)) c.loop-input-test.true (sym c.waits.ensures ∙ c.if-not-waits.true)
-
-pub loop-input-preserved : goal.loop-input-preserved
-loop-input-preserved c =
-    wait_more c.loop-input.input (choice_of c.args.choice.now) (box_of c.args.self.now.lines (view c.args.self.now.memory)) (sym c.waits.ensures ∙ c.if-not-waits.false) c.loop-input.invariant
 
 pub returns : goal.returns
 returns c =
-    let e : c.loop-input.input ≡ c.args.self.now.lines = omega (arith, c.loop-input-test.false) in
-    sym (ap (λ (n : ℕ). all_wait n (choice_of c.args.choice.now) (box_of c.args.self.now.lines (view c.args.self.now.memory))) (sym e) ∙ c.loop-input.invariant)
+    let n = c.args.self.now.lines in
+    let b = box_of n (view c.args.self.now.memory) in
+    let few = c.requires.good.few in
+    all_from_yields_List {s = c.zip.result} (λ (p : ℕ × Arrival). waits_in p.1 (b.waiting p.0)) c.all.new.self _ c.all.result c.all.ensures.ran
+    (each_line n c.args.choice.now c.zip.result c.zip.ensures.first c.zip.ensures.second.0) (λ x r q k. search (rules, tests))
+    ∙ all_wait-listed n c.args.choice.now b (omega (arith, c.told-choice))

@@ -1,25 +1,52 @@
-use Rattle.std.proofs.Common.{◌≡◌, ℕ, ap, ◌∙◌, arith}
+use Rattle.std.proofs.Common.{◌≡◌, ℕ, ◌∷◌, [], length, set, Some, Option, subst, sym, ap, ap₂, ◌∙◌, arith}
+use Rattle.std.proofs.lemmas.List.{length-append}
+use Rattle.crossbox.specs.declared.Arrival.TheVariants.{Nothing}
+use Rattle.crossbox.specs.declared.Arrival.{Arrival}
+use Rattle.crossbox.specs.declared.Cell.{Cell}
 use Rattle.buffer.specs.Memory.{view}
-use Rattle.cioq.specs.Spells.{cells, box_of}
-use Rattle.cioq.specs.Choice.{choice_of, gets_of, picks}
-use Rattle.cioq.proofs.Judging.{table_none, table_more, named_there}
+use Rattle.cioq.specs.Spells.{box_of}
+use Rattle.cioq.specs.Choice.{choice_of, named, noted}
+use Rattle.crossbox.proofs.Lines.{line_turn}
+use Rattle.cioq.proofs.Judging.{Table, table_none, table_more, named_there}
 use Rattle.cioq.proofs.RealBox.gets.Goals as goal
 
 pub loop-input-init : goal.loop-input-init
 loop-input-init c = table_none (choice_of c.args.choice.now) (box_of c.args.self.now.lines (view c.args.self.now.memory))
 
-pub note-requires : goal.note-requires
-note-requires c =
-    λ x e.
-    let few = c.requires.good.few in
-    let h = named_there c.args.self.now.lines c.loop-input.input (choice_of c.args.choice.now) (cells (view c.args.self.now.memory) c.loop-input.input) c.named_at-picked.result c.named_at-picked.ensures c.requires.fits c.loop-input-test.true x e in
-    omega arith
+pub named_at-requires-clause-there : goal.named_at-requires-clause-there
+named_at-requires-clause-there c =
+    let a = line_turn c.args.self.now.lines c.args.choice.now c.zip-input-items.result c.zip-input-items.ensures.first c.zip-input-items.ensures.second.0 (omega (arith, c.requires.good.few, c.told-choice)) c.into_iter-input-iterator.result c.into_iter-input-iterator.ensures.into_iter_gives c.loop-input.yielded c.loop-input.input-iterator c.next.new.self c.next.result c.loop-input.yielded_by c.next.ensures.steps (c.in-Some.input, c.in-Some.field-0-1) c.in-Some.is Nothing in
+    omega (arith, a.0, a.1.0)
+
+pub bounds-gets-cell : goal.bounds-gets-cell
+bounds-gets-cell c =
+    let n = c.args.self.now.lines in
+    let ch = choice_of c.args.choice.now in
+    let b = box_of n (view c.args.self.now.memory) in
+    let k = length c.loop-input.yielded in
+    let a = line_turn c.args.self.now.lines c.args.choice.now c.zip-input-items.result c.zip-input-items.ensures.first c.zip-input-items.ensures.second.0 (omega (arith, c.requires.good.few, c.told-choice)) c.into_iter-input-iterator.result c.into_iter-input-iterator.ensures.into_iter_gives c.loop-input.yielded c.loop-input.input-iterator c.next.new.self c.next.result c.loop-input.yielded_by c.next.ensures.steps (c.in-Some.input, c.in-Some.field-0-1) c.in-Some.is Nothing in
+    let e : c.named_at.result ≡ named (ch k) (b.waiting k) = c.named_at.ensures ∙ ap₂ (λ (x : Arrival) (i : ℕ). named x (b.waiting i)) a.1.1 a.1.0 in
+    let h = named_there n k ch (b.waiting k) c.named_at.result e c.requires.fits a.0 c.in-Some-named_at.cell c.in-Some-named_at.is in
+    omega (arith, h, c.requires.good.few)
+
+pub loop-input-preserved-in-Some-named_at : goal.loop-input-preserved-in-Some-named_at
+loop-input-preserved-in-Some-named_at c =
+    let n = c.args.self.now.lines in
+    let ch = choice_of c.args.choice.now in
+    let b = box_of n (view c.args.self.now.memory) in
+    let k = length c.loop-input.yielded in
+    let a = line_turn c.args.self.now.lines c.args.choice.now c.zip-input-items.result c.zip-input-items.ensures.first c.zip-input-items.ensures.second.0 (omega (arith, c.requires.good.few, c.told-choice)) c.into_iter-input-iterator.result c.into_iter-input-iterator.ensures.into_iter_gives c.loop-input.yielded c.loop-input.input-iterator c.next.new.self c.next.result c.loop-input.yielded_by c.next.ensures.steps (c.in-Some.input, c.in-Some.field-0-1) c.in-Some.is Nothing in
+    let e : c.named_at.result ≡ named (ch k) (b.waiting k) = c.named_at.ensures ∙ ap₂ (λ (x : Arrival) (i : ℕ). named x (b.waiting i)) a.1.1 a.1.0 in
+    subst (λ (j : ℕ). Table (set c.loop-input.gets c.in-Some-named_at.cell.output (Some c.in-Some-named_at.cell)) j ch b) (sym (length-append c.loop-input.yielded ((c.in-Some.input, c.in-Some.field-0-1) ∷ [])))
+    (table_more c.loop-input.gets (set c.loop-input.gets c.in-Some-named_at.cell.output (Some c.in-Some-named_at.cell)) k ch b c.named_at.result e (ap (λ (x : Option Cell). noted x c.loop-input.gets) (sym c.in-Some-named_at.is)) c.loop-input.invariant)
 
 pub loop-input-preserved : goal.loop-input-preserved
 loop-input-preserved c =
-    table_more c.loop-input.gets c.note.new.gets c.loop-input.input (choice_of c.args.choice.now) (box_of c.args.self.now.lines (view c.args.self.now.memory)) c.named_at-picked.result c.named_at-picked.ensures c.note.ensures c.loop-input.invariant
-
-pub returns : goal.returns
-returns c =
-    let e : c.loop-input.input ≡ c.args.self.now.lines = omega (arith, c.loop-input-test.false) in
-    λ o h. c.loop-input.invariant.1 o h ∙ ap (λ (n : ℕ). gets_of (picks n (choice_of c.args.choice.now) (box_of c.args.self.now.lines (view c.args.self.now.memory))) o) e
+    let n = c.args.self.now.lines in
+    let ch = choice_of c.args.choice.now in
+    let b = box_of n (view c.args.self.now.memory) in
+    let k = length c.loop-input.yielded in
+    let a = line_turn c.args.self.now.lines c.args.choice.now c.zip-input-items.result c.zip-input-items.ensures.first c.zip-input-items.ensures.second.0 (omega (arith, c.requires.good.few, c.told-choice)) c.into_iter-input-iterator.result c.into_iter-input-iterator.ensures.into_iter_gives c.loop-input.yielded c.loop-input.input-iterator c.next.new.self c.next.result c.loop-input.yielded_by c.next.ensures.steps (c.in-Some.input, c.in-Some.field-0-1) c.in-Some.is Nothing in
+    let e : c.named_at.result ≡ named (ch k) (b.waiting k) = c.named_at.ensures ∙ ap₂ (λ (x : Arrival) (i : ℕ). named x (b.waiting i)) a.1.1 a.1.0 in
+    subst (λ (j : ℕ). Table c.loop-input.gets j ch b) (sym (length-append c.loop-input.yielded ((c.in-Some.input, c.in-Some.field-0-1) ∷ [])))
+    (table_more c.loop-input.gets c.loop-input.gets k ch b c.named_at.result e (ap (λ (x : Option Cell). noted x c.loop-input.gets) (sym c.in_default.is)) c.loop-input.invariant)

@@ -1,73 +1,45 @@
-use Rattle.std.proofs.Common.{◌<◌, sym, ◌∙◌, subst, arith}
-use Rattle.std.proofs.ByRecursion.{All-get_or}
+use Rattle.std.proofs.Common.{rules, tests, ◌<◌, List, map, not, ap, sym, ◌∙◌, arith}
+use Rattle.std.specs.List.{range_with_len, prefix_len}
+use Rattle.std.proofs.lemmas.Iterator.{YieldsList-from_range, YieldsList-from_map}
+use Rattle.std.proofs.lemmas.Iterator.Consumers.{YieldsList-at}
+use Rattle.std.proofs.lemmas.Iterator.Adapters.{serves_from_places}
+use Rattle.std.proofs.lemmas.Iterator.Search.{YieldsList-from_take_while, all_from_yields_List}
 use Rattle.crossbox.specs.declared.Cell.{Cell}
 use Rattle.buffer.specs.Memory.{view}
-use Rattle.cioq.specs.Spells.{cells}
-use Rattle.cioq.specs.Choice.{table_of}
-use Rattle.cioq.proofs.Lists.{cells-length, cells_at}
-use Rattle.cioq.proofs.Judging.{settled-sent, settled-not, settled_on, settled_end}
+use Rattle.cioq.specs.Choice.{table_of, is_named, beats, settled}
+use Rattle.cioq.specs.Transfers.{cell_at}
+use Rattle.cioq.proofs.Seeking.{cells_listed}
+use Rattle.cioq.proofs.Choosing.{settled-listed, aimed_at}
 use Rattle.cioq.proofs.RealBox.settled.Goals as goal
-
-pub returns-then-names : goal.returns-then-names
-returns-then-names c =
-    let m = view c.args.self.now.memory in
-    let l = cells m c.args.input in
-    let few = c.requires.good.few in
-    let there = c.requires.there in
-    let row : c.args.input < m.count = omega (arith, c.requires.good.rows) in
-    let n = cells-length m c.args.input c.requires.good.sound row in
-    let t = c.loop-k-test.true in
-    let le = c.len-len.ensures in
-    let e = cells_at m c.args.input c.loop-k.k c.cell-cell.result c.requires.good.sound row (omega arith) ∙ sym c.cell-cell.ensures in
-    sym (sym c.loop-k.invariant ∙ settled-sent (table_of c.args.gets.now) c.args.arrival l c.loop-k.k c.cell-cell.result e (omega arith) (sym c.names.ensures ∙ c.if-names.true))
-
-pub returns-then-not-leads : goal.returns-then-not-leads
-returns-then-not-leads c =
-    let m = view c.args.self.now.memory in
-    let l = cells m c.args.input in
-    let few = c.requires.good.few in
-    let there = c.requires.there in
-    let row : c.args.input < m.count = omega (arith, c.requires.good.rows) in
-    let n = cells-length m c.args.input c.requires.good.sound row in
-    let t = c.loop-k-test.true in
-    let le = c.len-len.ensures in
-    let e = cells_at m c.args.input c.loop-k.k c.cell-cell.result c.requires.good.sound row (omega arith) ∙ sym c.cell-cell.ensures in
-    sym (sym c.loop-k.invariant ∙ settled-not (table_of c.args.gets.now) c.args.arrival l c.loop-k.k c.cell-cell.result e (omega arith) (sym c.names.ensures ∙ c.if-names.false) (sym c.leads.ensures ∙ c.if-not-leads.true))
-
-pub loop-k-preserved : goal.loop-k-preserved
-loop-k-preserved c =
-    let m = view c.args.self.now.memory in
-    let l = cells m c.args.input in
-    let few = c.requires.good.few in
-    let there = c.requires.there in
-    let row : c.args.input < m.count = omega (arith, c.requires.good.rows) in
-    let n = cells-length m c.args.input c.requires.good.sound row in
-    let t = c.loop-k-test.true in
-    let le = c.len-len.ensures in
-    let e = cells_at m c.args.input c.loop-k.k c.cell-cell.result c.requires.good.sound row (omega arith) ∙ sym c.cell-cell.ensures in
-    sym (settled_on (table_of c.args.gets.now) c.args.arrival l c.loop-k.k c.cell-cell.result e (omega arith) (sym c.names.ensures ∙ c.if-names.false) (sym c.leads.ensures ∙ c.if-not-leads.false)) ∙ c.loop-k.invariant
 
 pub returns : goal.returns
 returns c =
     let m = view c.args.self.now.memory in
-    let l = cells m c.args.input in
+    let n = c.len.result in
+    let x = c.args.arrival in
+    let gets = table_of c.args.gets.now in
     let few = c.requires.good.few in
     let there = c.requires.there in
-    let row : c.args.input < m.count = omega (arith, c.requires.good.rows) in
-    let n = cells-length m c.args.input c.requires.good.sound row in
-    let t = c.loop-k-test.false in
-    let le = c.len-len.ensures in
-    sym (sym c.loop-k.invariant ∙ settled_end (table_of c.args.gets.now) c.args.arrival l c.loop-k.k (omega arith))
+    all_from_yields_List {s = c.take_while.result} (λ (d : Cell). beats (gets d.output) d) _ _ c.all.result c.all.ensures.ran
+    (YieldsList-from_take_while _ (λ (d : Cell). not (is_named d.output x))
+    (YieldsList-at c.take_while.ensures.source (YieldsList-from_map _ (cell_at m c.args.input) (YieldsList-at c.map.ensures.source (YieldsList-from_range 0 n n (cc) (omega arith))) c.map.ensures.closure (λ y r q k. search rules)))
+    c.take_while.ensures.closure c.take_while.ensures.done (λ y b q k. search (rules, tests)))
+    (λ y b q k. search (rules, tests))
+    ∙ (settled-listed gets x (map (cell_at m c.args.input) (range_with_len 0 n))
+    ∙ ap (λ (l : List Cell). settled gets x l) (sym (cells_listed m c.args.input n c.requires.good.sound (omega (arith, c.requires.good.rows)) c.len.ensures)))
 
-pub bounds-gets-cell : goal.bounds-gets-cell
-bounds-gets-cell c =
+pub all-requires-clause-callable : goal.all-requires-clause-callable
+all-requires-clause-callable c =
     let m = view c.args.self.now.memory in
-    let l = cells m c.args.input in
+    let n = c.len.result in
+    let x = c.args.arrival in
     let few = c.requires.good.few in
     let there = c.requires.there in
-    let row : c.args.input < m.count = omega (arith, c.requires.good.rows) in
-    let n = cells-length m c.args.input c.requires.good.sound row in
-    let t = c.loop-k-test.true in
-    let le = c.len-len.ensures in
-    let e = cells_at m c.args.input c.loop-k.k c.cell-cell.result c.requires.good.sound row (omega arith) ∙ sym c.cell-cell.ensures in
-    subst (λ (x : Cell). x.output < 32) e (All-get_or (λ (x : Cell). x.output < 32) l c.loop-k.k c.cell-cell.result (omega arith) c.requires.aimed)
+    serves_from_places {s = c.take_while.result}
+    (YieldsList-from_take_while _ (λ (d : Cell). not (is_named d.output x))
+    (YieldsList-at c.take_while.ensures.source (YieldsList-from_map _ (cell_at m c.args.input) (YieldsList-at c.map.ensures.source (YieldsList-from_range 0 n n (cc) (omega arith))) c.map.ensures.closure (λ y r q k. search rules)))
+    c.take_while.ensures.closure c.take_while.ensures.done (λ y b q k. search (rules, tests)))
+    (λ y q r. search (rules, tests))
+    (λ y k l e.
+    let h : y.output < 32 = aimed_at (prefix_len (λ (d : Cell). not (is_named d.output x)) (map (cell_at m c.args.input) (range_with_len 0 n))) k _ _ y (cells_listed m c.args.input n c.requires.good.sound (omega (arith, c.requires.good.rows)) c.len.ensures) c.requires.aimed l e in
+    search rules)

@@ -1,32 +1,20 @@
-use Rattle.std.proofs.Common.{sym, ◌∙◌, arith}
+use Rattle.std.proofs.Common.{rules, tests, List, ap, sym, ◌∙◌, arith}
+use Rattle.std.proofs.lemmas.Iterator.{YieldsList-from_range}
+use Rattle.std.proofs.lemmas.Iterator.Consumers.{YieldsList-from_filter, count_from_yields_List}
+use Rattle.std.specs.List.{range_with_len}
+use Rattle.crossbox.specs.declared.Cell.{Cell}
+use Rattle.crossbox.specs.Cells.{earlier, count_earlier}
 use Rattle.buffer.specs.Memory.{view}
-use Rattle.cioq.specs.Spells.{cells}
-use Rattle.cioq.proofs.Lists.{cells-length, cells_at}
-use Rattle.cioq.proofs.Seeking.{count_yes, count_no, count_end}
+use Rattle.cioq.specs.Transfers.{cell_at}
+use Rattle.cioq.proofs.Seeking.{cells_listed, earlier_listed}
 use Rattle.cioq.proofs.search.count_earlier.Goals as goal
-use Rattle.cioq.proofs.search.count_earlier.Goals.{then-is_earlier, else-is_earlier}
-
-pub loop-k-preserved : goal.loop-k-preserved
-loop-k-preserved c =
-    let m = view c.args.memory.now in
-    let n = cells-length m c.args.row c.requires.sound c.requires.within in
-    let le = c.len-len.ensures in
-    let t = c.loop-k-test.true in
-    let e = cells_at m c.args.row c.loop-k.k c.cell.result c.requires.sound c.requires.within (omega arith) ∙ sym c.cell.ensures in
-    let i = c.loop-k.invariant.1 in
-    elim c.if-is_earlier.branch [
-      | then-is_earlier w ↦
-          let q = count_yes c.args.cell (cells m c.args.row) c.loop-k.k c.cell.result e (omega arith) (sym c.is_earlier.ensures ∙ w.if-is_earlier.true) in
-          (omega (arith, w.count-is), omega (arith, w.count-is))
-      | else-is_earlier w ↦
-          let q = count_no c.args.cell (cells m c.args.row) c.loop-k.k c.cell.result e (omega arith) (sym c.is_earlier.ensures ∙ w.if-is_earlier.false) in
-          (omega (arith, w.count-is), omega (arith, w.count-is))
-    ]
 
 pub returns : goal.returns
 returns c =
     let m = view c.args.memory.now in
-    let n = cells-length m c.args.row c.requires.sound c.requires.within in
-    let le = c.len-len.ensures in
-    let t = c.loop-k-test.false in
-    omega (arith, c.loop-k.invariant.1, count_end c.args.cell (cells m c.args.row) c.loop-k.k (omega arith))
+    let n = c.len.result in
+    let f = cell_at m c.args.row in
+    count_from_yields_List c.filter.result c.count.result c.count.ensures.ran
+    (YieldsList-from_filter _ (λ k. earlier (f k) c.args.cell) (YieldsList-from_range 0 n n (cc) (omega arith)) c.filter.ensures.closure (λ x b q k. search (rules, tests)))
+    ∙ (sym (earlier_listed c.args.cell f (range_with_len 0 n))
+    ∙ ap (λ (l : List Cell). count_earlier c.args.cell l) (sym (cells_listed m c.args.row n c.requires.sound c.requires.within c.len.ensures)))

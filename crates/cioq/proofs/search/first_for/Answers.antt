@@ -1,32 +1,17 @@
-use Rattle.std.proofs.Common.{sym, ◌∙◌, arith}
+use Rattle.std.proofs.Common.{rules, tests, eqb, ap, sym, ◌∙◌, arith}
+use Rattle.std.proofs.lemmas.Iterator.{YieldsList-from_range}
+use Rattle.std.proofs.lemmas.Iterator.Search.{position_from_yields_List}
+use Rattle.std.specs.List.{range_with_len}
 use Rattle.buffer.specs.Memory.{view}
-use Rattle.cioq.specs.Spells.{cells}
-use Rattle.cioq.proofs.Lists.{cells-length, cells_at}
-use Rattle.cioq.proofs.Seeking.{found_here, not_here, none_left}
+use Rattle.cioq.specs.Transfers.{cell_at, place_of_first}
+use Rattle.cioq.proofs.Seeking.{cells_listed, first_listed}
 use Rattle.cioq.proofs.search.first_for.Goals as goal
-
-pub returns-then-cell-output : goal.returns-then-cell-output
-returns-then-cell-output c =
-    let m = view c.args.memory.now in
-    let n = cells-length m c.args.row c.requires.sound c.requires.within in
-    let le = c.len-len.ensures in
-    let t = c.loop-k-test.true in
-    let e = cells_at m c.args.row c.loop-k.k c.cell.result c.requires.sound c.requires.within (omega arith) ∙ sym c.cell.ensures in
-    omega (arith, c.loop-k.invariant, found_here c.args.output (cells m c.args.row) c.loop-k.k c.cell.result e (omega arith) c.if-cell-output.true)
-
-pub loop-k-preserved : goal.loop-k-preserved
-loop-k-preserved c =
-    let m = view c.args.memory.now in
-    let n = cells-length m c.args.row c.requires.sound c.requires.within in
-    let le = c.len-len.ensures in
-    let t = c.loop-k-test.true in
-    let e = cells_at m c.args.row c.loop-k.k c.cell.result c.requires.sound c.requires.within (omega arith) ∙ sym c.cell.ensures in
-    omega (arith, c.loop-k.invariant, not_here c.args.output (cells m c.args.row) c.loop-k.k c.cell.result e (omega arith) c.if-cell-output.false)
 
 pub returns : goal.returns
 returns c =
     let m = view c.args.memory.now in
-    let n = cells-length m c.args.row c.requires.sound c.requires.within in
-    let le = c.len-len.ensures in
-    let t = c.loop-k-test.false in
-    omega (arith, c.loop-k.invariant, c.loop-k.auto.k-end, none_left c.args.output (cells m c.args.row) c.loop-k.k (omega arith))
+    let n = c.len.result in
+    let f = cell_at m c.args.row in
+    position_from_yields_List (λ k. eqb (f k).output c.args.output) _ _ c.position.result c.position.ensures.ran (YieldsList-from_range 0 n n (cc) (omega arith)) (λ x b q k. search (rules, tests))
+    ∙ (sym (first_listed c.args.output f (range_with_len 0 n))
+    ∙ ap (place_of_first c.args.output) (sym (cells_listed m c.args.row n c.requires.sound c.requires.within c.len.ensures)))

@@ -1,51 +1,20 @@
-use Rattle.std.proofs.Common.{◌≡◌, ◌-◌, get_or, sym, ap, ◌∙◌, arith}
-use Rattle.std.specs.List.{suffix_len}
-use Rattle.std.proofs.lemmas.List.Sums.{suffix_len-take_yes, suffix_len-take_no}
-use Rattle.std.proofs.lemmas.List.{take_all}
-use Rattle.crossbox.specs.declared.Cell.{Cell}
+use Rattle.std.proofs.Common.{rules, tests, ℕ, ◌-◌, ap, sym, ◌∙◌}
+use Rattle.std.proofs.lemmas.List.Folds.{length-prefix_len}
+use Rattle.std.proofs.lemmas.Iterator.Search.{YieldsList-from_take_while}
+use Rattle.std.proofs.lemmas.Iterator.Consumers.{YieldsList-at, count_from_yields_List}
 use Rattle.crossbox.specs.Cells.{earlier}
 use Rattle.buffer.specs.Memory.{view}
-use Rattle.cioq.specs.Spells.{cells}
-use Rattle.cioq.proofs.Lists.{cells-length, cells_at}
-use Rattle.cioq.proofs.Seeking.{place_stop, ending-none}
+use Rattle.cioq.specs.Transfers.{cell_at, place_for}
+use Rattle.cioq.proofs.Seeking.{cells_listed, downs, YieldsList-from_end, place_listed}
 use Rattle.cioq.proofs.search.place_for.Goals as goal
-
-pub loop-k-init : goal.loop-k-init
-loop-k-init c =
-    let l = cells (view c.args.memory.now) c.args.row in
-    let n = cells-length (view c.args.memory.now) c.args.row c.requires.sound c.requires.within in
-    let e = c.len-k.ensures in
-    let t = take_all c.len-k.result l (omega arith) in
-    (omega arith, omega (arith, ap (λ xs. suffix_len (earlier c.args.cell) xs) t))
-
-pub cell-last-requires : goal.cell-last-requires
-cell-last-requires c =
-    let n = cells-length (view c.args.memory.now) c.args.row c.requires.sound c.requires.within in
-    (omega arith, (c.requires.sound, (c.requires.within, omega (arith, c.loop-k.invariant.0, c.loop-k-test.true))))
-
-pub returns-then-not-is_earlier : goal.returns-then-not-is_earlier
-returns-then-not-is_earlier c =
-    let m = view c.args.memory.now in
-    let l = cells m c.args.row in
-    let n = cells-length m c.args.row c.requires.sound c.requires.within in
-    let i = c.loop-k.invariant.0 in
-    let t = c.loop-k-test.true in
-    let e : get_or l (c.loop-k.k - 1) c.cell-last.result ≡ c.cell-last.result = cells_at m c.args.row (c.loop-k.k - 1) c.cell-last.result c.requires.sound c.requires.within (omega arith) ∙ sym c.cell-last.ensures in
-    place_stop c.args.cell l c.loop-k.k i c.loop-k.invariant.1
-    (suffix_len-take_no (earlier c.args.cell) l c.loop-k.k c.cell-last.result t i (ap (λ (d : Cell). earlier c.args.cell d) e ∙ (sym c.is_earlier.ensures ∙ c.if-not-is_earlier.true)))
-
-pub loop-k-preserved : goal.loop-k-preserved
-loop-k-preserved c =
-    let m = view c.args.memory.now in
-    let l = cells m c.args.row in
-    let n = cells-length m c.args.row c.requires.sound c.requires.within in
-    let i = c.loop-k.invariant.0 in
-    let t = c.loop-k-test.true in
-    let e : get_or l (c.loop-k.k - 1) c.cell-last.result ≡ c.cell-last.result = cells_at m c.args.row (c.loop-k.k - 1) c.cell-last.result c.requires.sound c.requires.within (omega arith) ∙ sym c.cell-last.ensures in
-    let y = suffix_len-take_yes (earlier c.args.cell) l c.loop-k.k c.cell-last.result t i (ap (λ (d : Cell). earlier c.args.cell d) e ∙ (sym c.is_earlier.ensures ∙ c.if-not-is_earlier.false)) in
-    (omega arith, omega (arith, c.loop-k.invariant.1, y))
 
 pub returns : goal.returns
 returns c =
-    let l = cells (view c.args.memory.now) c.args.row in
-    place_stop c.args.cell l c.loop-k.k c.loop-k.invariant.0 c.loop-k.invariant.1 (ending-none c.args.cell l c.loop-k.k (omega (arith, c.loop-k-test.false)))
+    let m = view c.args.memory.now in
+    let n = c.len-len.result in
+    let f = cell_at m c.args.row in
+    ap (λ (k : ℕ). n - k) (count_from_yields_List c.take_while.result c.count.result c.count.ensures.ran
+    (YieldsList-from_take_while _ (λ k. earlier c.args.cell (f k)) (YieldsList-at c.take_while.ensures.source (YieldsList-from_end n c.rev.result c.rev.ensures.source)) c.take_while.ensures.closure c.take_while.ensures.done (λ x b q k. search (rules, tests)))
+    ∙ length-prefix_len (λ k. earlier c.args.cell (f k)) (downs 0 n))
+    ∙ (sym (place_listed c.args.cell f n)
+    ∙ ap (place_for c.args.cell) (sym (cells_listed m c.args.row n c.requires.sound c.requires.within c.len-len.ensures)))

@@ -8,4 +8,4 @@ returns-then-has c =
 
 pub returns : goal.returns
 returns c =
-    λ ls m e. noted-now c.args.self.now ls c.args.input c.args.cell m c.requires.0 c.requires.1 c.with.result c.args.place (sym c.has.ensures ∙ c.if-has.false) c.with.ensures e
+    λ ls m e. noted-now c.args.self.now ls c.args.input c.args.cell m c.requires.0 c.requires.1 c.with.result c.args.place (sym c.has.ensures ∙ c.if-has.false) c.with.ensures.bits e
