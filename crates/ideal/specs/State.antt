@@ -1,7 +1,7 @@
 -- The ideal box over lent memory, as plain lists and numbers. Assumes nothing.
 use Rattle.std.specs.Prelude.{◌≡◌, ℕ, ◌*◌, ◌<◌, ◌≤◌, length}
 use Rattle.buffer.specs.Memory.{Mem, view, Sound, row_length, reset}
-use Rattle.ideal.specs.declared.IdealBox.{IdealBox}
+use Rattle.buffer.specs.declared.memory.Memory.{Memory}
 
 -- all that there is: the memory, whose row o is the queue of output o, the number of lines, and how many slots there were
 pub record State : Type 0 where
@@ -9,8 +9,9 @@ pub record State : Type 0 where
   pub lines : ℕ
   pub slots : ℕ
 
-abbrev pub state : IdealBox → State
-state b = record { mem = view b.memory; lines = b.lines; slots = b.now }
+-- a box of these parts
+abbrev pub seen : Memory 32 256 → ℕ → ℕ → State
+seen m lines slots = record { mem = view m; lines = lines; slots = slots }
 
 -- Memory is sound, has a place more than its queue's room for each line, and only queues of lines that are there have cells.
 pub record Good (s : State) : Type 0 where

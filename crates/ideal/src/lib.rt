@@ -5,12 +5,13 @@ ghost use Rattle.std.specs.Prelude.{◌≡◌, ℕ, ◌+◌, ◌*◌, ◌^◌, �
 ghost use Rattle.buffer.specs.Memory.{lent_by, enough, fresh};
 ghost use Rattle.words.specs.Writing.{appended};
 ghost use Rattle.ideal.specs.Kept.{SlotStaysWithin, SettingsStayWithin, PlacesKept};
-ghost use Rattle.ideal.specs.State.{State, state, Good, unset, begun};
+ghost use Rattle.ideal.specs.State.{unset, begun};
 ghost use Rattle.ideal.specs.Steps.{Brings, Reads, lines_of, admit_one, admitted, away, turned_away, departing, departed, departure_of, departures, served, leavers, rejects};
 ghost use Rattle.words.specs.Answer.{Written, leaving, leaving_all};
 
 use buffer::{Loan, Memory};
 use crossbox::{Arrival, Cell};
+use std::marker::Model;
 use words::{
     ANSWER, ANSWER_BYTES, Answer, BODY, DEPARTURE_BYTES, MOST_LINES, NONE, body_of, read_entry,
 };
@@ -24,59 +25,67 @@ pub const ENTRIES: usize = 32 * ROOM;
 // Places for each line: as many as its queue holds, and one more.
 const PLACES_A_LINE: u16 = 257;
 
-// `Good` stands in clauses: a ghost field would have to hold amid a put too, and a struct that holds a `&mut` has no model.
 #[derive(Drop)]
 pub struct IdealBox<'a> {
     memory: Memory<'a, MOST_LINES, ROOM>,
     lines: u8,
-    now: u64,
+    slots: u64,
+}
+
+// Contracts see its memory, its number of lines, and how many slots it has had.
+impl<'a> Model for IdealBox<'a> {
+    ghost use Rattle.ideal.specs.State.{State, Good, seen};
+
+    ghost Value = { State };
+
+    ghost view = { λ b. seen b.memory b.lines b.slots };
+
+    ghost invariant = { λ b. Good (seen b.memory b.lines b.slots) };
 }
 
 impl<'a> IdealBox<'a> {
     // A box over what the caller lends, with no lines yet; None where that is too little.
     pub fn new(loan: Loan<'a>) -> Option<IdealBox<'a>>
-        ensures { MatchOption result (enough 32 256 (lent_by loan.entry) ≡ false) (λ b. (enough 32 256 (lent_by loan.entry) ≡ true) × (state b ≡ unset (fresh 32 256 (lent_by loan.entry)))) }
+        ensures { MatchOption result (enough 32 256 (lent_by loan.entry) ≡ false) (λ b. (enough 32 256 (lent_by loan.entry) ≡ true) × (b ≡ unset (fresh 32 256 (lent_by loan.entry)))) }
     {
         let memory = Memory::new(loan)?;
         Some(IdealBox {
             memory,
             lines: 0,
-            now: 0,
+            slots: 0,
         })
     }
 
     // How many lines there are; 0 before the first settings.
     pub fn lines(&self) -> u8
-        ensures { result ≡ (state self.entry.now).lines }
+        ensures { result ≡ self.now.lines }
     {
         self.lines
     }
 
     // How many slots the box has had since its settings.
     pub fn slots(&self) -> u64
-        ensures { result ≡ (state self.entry.now).slots }
+        ensures { result ≡ self.now.slots }
     {
-        self.now
+        self.slots
     }
 
     // Begins anew and empty, with so many lines.
     pub fn begin(&mut self, lines: u8)
-        requires good { Good (state self.now) }
-        requires few { lines ≤ 32 }
-        ensures { state self.exit.now ≡ begun lines (state self.entry.now) }
+        requires { lines ≤ 32 }
+        ensures { self.new ≡ begun lines self.old }
     {
         self.memory.reset(PLACES_A_LINE * u16::from(lines));
         self.lines = lines;
-        self.now = 0;
+        self.slots = 0;
     }
 
     // Puts what arrives by an input to the end of its queue; true where the queue is full and the cell is turned away.
     fn admit(&mut self, input: u8, arrival: Arrival, body: &[u8]) -> bool
-        requires good { Good (state self.now) }
-        requires early { (state self.now).slots < 2 ^ 32 }
-        requires brings { Brings (state self.now).lines arrival body.now }
-        ensures after { state self.exit.now ≡ admit_one input arrival body.now (state self.entry.now) }
-        ensures away { result ≡ turned_away (state self.entry.now).mem arrival }
+        requires early { self.old.slots < 2 ^ 32 }
+        requires brings { Brings self.old.lines arrival body.now }
+        ensures after { self.new ≡ admit_one input arrival body.now self.old }
+        ensures away { result ≡ turned_away self.old.mem arrival }
     {
         let Arrival::For(output) = arrival else {
             return false;
@@ -86,7 +95,7 @@ impl<'a> IdealBox<'a> {
             return true;
         }
         let cell = Cell {
-            slot: self.now as u32,
+            slot: self.slots as u32,
             input,
             output,
         };
@@ -96,11 +105,10 @@ impl<'a> IdealBox<'a> {
 
     // Admits what the lines of a slot bring; gives for each input whether its cell was turned away.
     fn admit_all(&mut self, bytes: &[u8]) -> [bool; MOST_LINES]
-        requires good { Good (state self.now) }
-        requires early { (state self.now).slots < 2 ^ 32 }
-        requires read { Reads (state self.now).lines bytes.now }
-        ensures after { state self.exit.now ≡ admitted (state self.entry.now).lines (lines_of (state self.entry.now).lines bytes.now) (state self.entry.now) }
-        ensures away { (i : ℕ) → i < (state self.entry.now).lines → slice_index_or result i false ≡ away (state self.entry.now).slots (lines_of (state self.entry.now).lines bytes.now) (state self.entry.now).mem i }
+        requires early { self.old.slots < 2 ^ 32 }
+        requires read { Reads self.old.lines bytes.now }
+        ensures after { self.new ≡ admitted self.old.lines (lines_of self.old.lines bytes.now) self.old }
+        ensures away { (i : ℕ) → i < self.old.lines → slice_index_or result i false ≡ away self.old.slots (lines_of self.old.lines bytes.now) self.old.mem i }
     {
         let mut turned_away = [false; MOST_LINES];
         let mut rest = bytes;
@@ -116,11 +124,10 @@ impl<'a> IdealBox<'a> {
 
     // Writes what leaves by an output, and lets it go.
     fn depart(&mut self, output: u8, answer: &mut Answer)
-        requires good { Good (state self.now) }
-        requires there { output < (state self.now).lines }
+        requires there { output < self.old.lines }
         requires room { answer.old.len + DEPARTURE_BYTES ≤ ANSWER_BYTES }
-        ensures after { state self.exit.now ≡ departing output (state self.entry.now) }
-        ensures answer { answer.new ≡ appended (leaving (departure_of output (state self.entry.now).mem)) answer.old }
+        ensures after { self.new ≡ departing output self.old }
+        ensures answer { answer.new ≡ appended (leaving (departure_of output self.old.mem)) answer.old }
         ensures short { answer.new.len ≤ answer.old.len + DEPARTURE_BYTES }
     {
         if self.memory.len(output) == 0 {
@@ -134,11 +141,10 @@ impl<'a> IdealBox<'a> {
 
     // Writes what leaves by each output, and lets it go.
     fn depart_all(&mut self, answer: &mut Answer)
-        requires good { Good (state self.now) }
-        requires room { answer.old.len + DEPARTURE_BYTES * (state self.now).lines ≤ ANSWER_BYTES }
-        ensures after { state self.exit.now ≡ departed (state self.entry.now).lines (state self.entry.now) }
-        ensures answer { answer.new ≡ appended (leaving_all (departures (state self.entry.now).lines (state self.entry.now).mem)) answer.old }
-        ensures short { answer.new.len ≤ answer.old.len + DEPARTURE_BYTES * (state self.entry.now).lines }
+        requires room { answer.old.len + DEPARTURE_BYTES * self.old.lines ≤ ANSWER_BYTES }
+        ensures after { self.new ≡ departed self.old.lines self.old }
+        ensures answer { answer.new ≡ appended (leaving_all (departures self.old.lines self.old.mem)) answer.old }
+        ensures short { answer.new.len ≤ answer.old.len + DEPARTURE_BYTES * self.old.lines }
     {
         for output in 0..self.lines {
             self.depart(output, answer);
@@ -147,17 +153,17 @@ impl<'a> IdealBox<'a> {
 
     // Serves a slot whose lines have been judged good, and writes its answer.
     pub fn slot(&mut self, lines: &[u8], answer: &mut Answer)
-        requires good { Good (state self.now) }
-        requires early { (state self.now).slots < 2 ^ 32 }
-        requires read { Reads (state self.now).lines lines.now }
-        ensures after { state self.exit.now ≡ served (lines_of (state self.entry.now).lines lines.now) (state self.entry.now) }
-        ensures answer { Written answer.old.bytes answer.new.bytes answer.new.len (leavers (lines_of (state self.entry.now).lines lines.now) (state self.entry.now)) (rejects (lines_of (state self.entry.now).lines lines.now) (state self.entry.now)) }
+        requires early { self.old.slots < 2 ^ 32 }
+        requires read { Reads self.old.lines lines.now }
+        ensures after { self.new ≡ served (lines_of self.old.lines lines.now) self.old }
+        ensures answer { Written answer.old.bytes answer.new.bytes answer.new.len (leavers (lines_of self.old.lines lines.now) self.old) (rejects (lines_of self.old.lines lines.now) self.old) }
     {
+        let inputs = self.lines as usize;
         let turned_away = self.admit_all(lines);
         answer.begin(ANSWER);
         self.depart_all(answer);
-        self.now += 1;
-        answer.push_flags(&turned_away[..self.lines as usize]);
+        self.slots += 1;
+        answer.push_flags(&turned_away[..inputs]);
     }
 }
 

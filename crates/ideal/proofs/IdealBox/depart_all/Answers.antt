@@ -1,23 +1,18 @@
 use Rattle.std.proofs.Common.{arith}
-use Rattle.ideal.specs.State.{state}
 use Rattle.ideal.proofs.Loops.{departed-none, departures-none, departed-more, departures-more, good_departed}
 use Rattle.ideal.proofs.IdealBox.depart_all.Goals as goal
 
 pub loop-output-init : goal.loop-output-init
 loop-output-init c =
-    let s = state c.args.self.now in
+    let s = c.args.self.now in
     (departed-none s, departures-none s.mem c.args.answer.now, omega arith)
-
-pub depart-requires-clause-good : goal.depart-requires-clause-good
-depart-requires-clause-good c =
-    good_departed (state c.args.self.now) c.loop-output.output (state c.loop-output.self) c.loop-output.invariant.0 c.requires.good (omega arith)
 
 pub loop-output-preserved : goal.loop-output-preserved
 loop-output-preserved c =
     let i = c.loop-output.invariant in
-    let s = state c.args.self.now in
+    let s = c.args.self.now in
     let k = c.loop-output.output in (
-      departed-more s k (state c.loop-output.self) i.0 (state c.depart.new.self) c.depart.ensures.after,
-      departures-more s k (state c.loop-output.self) i.0 c.args.answer.now c.loop-output.answer c.depart.new.answer i.1 c.depart.ensures.answer,
+      departed-more s k c.loop-output.self i.0 c.depart.new.self c.depart.ensures.after,
+      departures-more s k c.loop-output.self i.0 c.args.answer.now c.loop-output.answer c.depart.new.answer i.1 c.depart.ensures.answer,
       omega (arith, c.depart.ensures.short, i.2),
     )
