@@ -3,7 +3,6 @@ ghost use Rattle.std.specs.Prelude.{◌≡◌, true, false, MatchOption};
 ghost use Rattle.buffer.specs.Memory.{lent_by, enough, fresh};
 ghost use Rattle.buffer.specs.Lent.{lent_to};
 ghost use Rattle.switch.specs.Respond.Status.{Unset};
-ghost use Rattle.ideal.specs.State.{state};
 ghost use Rattle.switch.specs.Best.{Shows};
 
 use crate::Switch;
@@ -13,15 +12,15 @@ use words::Answer;
 
 // An ideal box over what the caller lends, whatever that holds; None where it is too little.
 pub fn best_box(loan: Loan<'_>) -> Option<IdealBox<'_>>
-    ensures { MatchOption result (enough 32 256 (lent_by loan.entry) ≡ false) (λ b. (enough 32 256 (lent_by loan.entry) ≡ true) × Shows (state b) Unset × ((state b).mem ≡ fresh 32 256 (lent_by loan.entry))) }
+    ensures { MatchOption result (enough 32 256 (lent_by loan.entry) ≡ false) (λ b. (enough 32 256 (lent_by loan.entry) ≡ true) × Shows b Unset × (b.mem ≡ fresh 32 256 (lent_by loan.entry))) }
 {
     IdealBox::new(loan)
 }
 
 impl Switch for IdealBox<'_> {
-    ghost shows = { λ b st. Shows (state b) st };
+    ghost shows = { Shows };
 
-    ghost lent = { λ b. lent_to (state b).mem };
+    ghost lent = { λ b. lent_to b.mem };
 
     ghost width = { λ b. 256 };
 

@@ -1,5 +1,5 @@
 use Rattle.std.proofs.Common.{Some, None, Option, MatchOption, ap}
-use Rattle.ideal.specs.State.{State, state}
+use Rattle.ideal.specs.State.{State}
 use Rattle.switch.proofs.Turns.{made_unset}
 use Rattle.switch.proofs.best.best_box.Goals as goal
 
@@ -9,4 +9,4 @@ with_more P Q R None f h = h
 with_more P Q R (Some x) f h = f x h
 
 pub returns : goal.returns
-returns c = with_more _ _ _ c.new.result (λ b h. (h.0, made_unset _ (state b) h.0 h.1, ap (λ (z : State). z.mem) h.1)) c.new.ensures
+returns c = with_more _ _ _ c.new.result (λ b h. (h.0, made_unset _ b h.0 h.1, ap (λ (z : State). z.mem) h.1)) c.new.ensures
