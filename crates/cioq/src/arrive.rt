@@ -48,6 +48,7 @@ impl<'a> RealBox<'a> {
         let mut away = [false; 32];
         let mut rest = bytes;
         let lines = self.lines;
+        // By number and not over `away` itself, which is given back from within the loop.
         for input in 0..lines {
             let Some(entry) = read_entry(rest, BODY) else {
                 return away;
