@@ -53,7 +53,7 @@ fn tell_lines<'i>(
 {
     let mut rest = input;
     while let Some(line) = next_line(rest) {
-        let _spells = read_hex(line.text, word)?;
+        let _spells = read_hex(line.word, word)?;
         tell_word(crowd, ideal, word, real, other, out)?;
         rest = line.rest;
     }

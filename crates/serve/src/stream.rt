@@ -75,7 +75,7 @@ pub fn serve_lines<S: Switch>(
 {
     let mut rest = input;
     while let Some(line) = next_line(rest) {
-        let _spells = read_hex(line.text, word)?;
+        let _spells = read_hex(line.word, word)?;
         serve_line(switch, word, buffer, out)?;
         rest = line.rest;
     }

@@ -21,33 +21,33 @@ returns-in_err-_spells g c =
     rw p.1
     (going-stops g.S.Switch.shows hex_line line_words c.args.input.now c.loop-line.rest.now c.args.switch.now
     c.loop-line.switch (vec_items c.args.out.now) (vec_items c.loop-line.out) c.loop-line.invariant
-    (word_of c.in-Some.line.text.now) c.in-Some.line.rest.now c.loop-line.switch (vec_items c.loop-line.out)
-    (line_cut c.loop-line.rest.now c.in-Some.line.text.now c.in-Some.line.rest.now c.in-Some.ensures.value)
-    (stopped_at_once g.S.Switch.shows hex_line (word_of c.in-Some.line.text.now ∷ []) c.loop-line.switch (vec_items c.loop-line.out)))
+    (word_of c.in-Some.line.word.now) c.in-Some.line.rest.now c.loop-line.switch (vec_items c.loop-line.out)
+    (line_cut c.loop-line.rest.now c.in-Some.line.word.now c.in-Some.line.rest.now c.in-Some.ensures.value)
+    (stopped_at_once g.S.Switch.shows hex_line (word_of c.in-Some.line.word.now ∷ []) c.loop-line.switch (vec_items c.loop-line.out)))
 
 pub returns-in_err-serve_line : goal.returns-in_err-serve_line
 returns-in_err-serve_line g c =
     let p = err_from_is_err_and c.from_residual-in_err-serve_line.result c.from_residual-in_err-serve_line.ensures.1 in
     let read =
-    word_read c.in-Some.line.text.now (vec_items c.read_hex.new.word) c.deref.result.now c.in_ok-_spells._spells
+    word_read c.in-Some.line.word.now (vec_items c.read_hex.new.word) c.deref.result.now c.in_ok-_spells._spells
     c.read_hex.result c.in_ok-_spells.was c.read_hex.ensures.items c.deref.ensures.value in
     rw p.1
     (going-stops g.S.Switch.shows hex_line line_words c.args.input.now c.loop-line.rest.now c.args.switch.now
     c.loop-line.switch (vec_items c.args.out.now) (vec_items c.loop-line.out) c.loop-line.invariant
-    (word_of c.in-Some.line.text.now) c.in-Some.line.rest.now c.serve_line.new.switch (vec_items c.serve_line.new.out)
-    (line_cut c.loop-line.rest.now c.in-Some.line.text.now c.in-Some.line.rest.now c.in-Some.ensures.value)
+    (word_of c.in-Some.line.word.now) c.in-Some.line.rest.now c.serve_line.new.switch (vec_items c.serve_line.new.out)
+    (line_cut c.loop-line.rest.now c.in-Some.line.word.now c.in-Some.line.rest.now c.in-Some.ensures.value)
     (subst (λ w. Stopped g.S.Switch.shows hex_line (w ∷ []) c.loop-line.switch c.serve_line.new.switch (vec_items c.loop-line.out) (vec_items c.serve_line.new.out))
     read c.in_err-serve_line.ensures))
 
 pub loop-line-preserved : goal.loop-line-preserved
 loop-line-preserved g c =
     let read =
-    word_read c.in-Some.line.text.now (vec_items c.read_hex.new.word) c.deref.result.now c.in_ok-_spells._spells
+    word_read c.in-Some.line.word.now (vec_items c.read_hex.new.word) c.deref.result.now c.in_ok-_spells._spells
     c.read_hex.result c.in_ok-_spells.was c.read_hex.ensures.items c.deref.ensures.value in
     going_more g.S.Switch.shows hex_line line_words c.args.input.now c.loop-line.rest.now c.args.switch.now
     c.loop-line.switch (vec_items c.args.out.now) (vec_items c.loop-line.out) c.loop-line.invariant
-    (word_of c.in-Some.line.text.now) c.in-Some.line.rest.now c.serve_line.new.switch (vec_items c.serve_line.new.out)
-    (line_cut c.loop-line.rest.now c.in-Some.line.text.now c.in-Some.line.rest.now c.in-Some.ensures.value)
+    (word_of c.in-Some.line.word.now) c.in-Some.line.rest.now c.serve_line.new.switch (vec_items c.serve_line.new.out)
+    (line_cut c.loop-line.rest.now c.in-Some.line.word.now c.in-Some.line.rest.now c.in-Some.ensures.value)
     (subst (λ w. Served g.S.Switch.shows hex_line (w ∷ []) c.loop-line.switch c.serve_line.new.switch (vec_items c.loop-line.out) (vec_items c.serve_line.new.out))
     read c.in_ok-serve_line.ensures)
 
