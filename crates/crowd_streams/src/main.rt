@@ -1,19 +1,14 @@
 // Streams with the lines that must come of them: each is run, and compared byte for byte.
 #![tactic(auto)]
 
-ghost use Rattle.crowd.specs.Crowd.{Status};
-ghost use Rattle.crowd.specs.State.{state, Shows};
-ghost use Rattle.ideal.specs.State as best;
-ghost use Rattle.switch.specs.Respond as respond;
-ghost use Rattle.switch.specs.Best as switch;
-
 use buffer::{Head, PLACES};
 use crowd::Crowd;
-use crowd_text::{tell_end, tell_stream};
-use ideal::{IdealBox, ROOM};
-use serve::{Form, ServeError, zeros};
+use crowd_text::Telling;
+use ideal::ROOM;
+use serve::{Form, ServeError, Service};
 use std::alloc::{AllocError, Global};
 use std::{env, fs};
+use switch::best_box;
 
 // How many lines there are at most.
 const LINES: usize = 32;
@@ -40,43 +35,6 @@ fn lend(heap: Global, rows: usize) -> Result<Lent, AllocError> {
     })
 }
 
-// The lines that two boxes side by side tell of a whole stream.
-fn tell_text(
-    heap: Global,
-    crowd: &mut Crowd<'_>,
-    ideal: &mut IdealBox<'_>,
-    input: &[u8],
-) -> Result<String, AllocError>
-    requires crowd { (st : Status) × Shows (state crowd.old) st }
-    requires ideal { (st : respond.Status) × switch.Shows (best.state ideal.old) st }
-{
-    let mut real = zeros::<2241>();
-    let mut other = zeros::<2241>();
-    let mut word = Vec::new(heap);
-    let mut out = String::new(heap);
-    let left = tell_stream(
-        crowd,
-        ideal,
-        Form::Frames,
-        input,
-        &mut word,
-        &mut real,
-        &mut other,
-        &mut out,
-    )?;
-    tell_end(
-        crowd,
-        ideal,
-        Form::Frames,
-        left,
-        &mut word,
-        &mut real,
-        &mut other,
-        &mut out,
-    )?;
-    Ok(out)
-}
-
 // The lines of a whole stream.
 fn tell_whole(
     heap: Global,
@@ -84,26 +42,24 @@ fn tell_whole(
     beside: &mut Lent,
     input: &[u8],
 ) -> Result<String, ServeError> {
-    let Some(mut crowd) = Crowd::new(
+    let mut crowd = Crowd::new(
         &mut lent.heads,
         &mut lent.cells,
         &mut lent.rows,
         &mut lent.spare,
-    ) else {
-        return Err(ServeError::TooLittleLent);
-    };
-    let Some(mut ideal) = IdealBox::new(
+    )
+    .ok_or(ServeError::TooLittleLent)?;
+    let mut ideal = best_box(
         &mut beside.heads,
         &mut beside.cells,
         &mut beside.rows,
         &mut beside.spare,
-    ) else {
-        return Err(ServeError::TooLittleLent);
-    };
-    match tell_text(heap, &mut crowd, &mut ideal, input) {
-        Ok(text) => Ok(text),
-        Err(_) => Err(ServeError::OutOfMemory),
-    }
+    )
+    .ok_or(ServeError::TooLittleLent)?;
+    let mut telling = Telling::new(&mut crowd, &mut ideal, Form::Frames, heap);
+    let used = telling.serve(input)?;
+    telling.end(&input[used..])?;
+    Ok(telling.into_text())
 }
 
 // The first place where two streams differ.

@@ -4,20 +4,29 @@ ghost use Rattle.std.specs.List.{flat_map};
 ghost use Rattle.buffer.specs.Memory.{enough};
 ghost use Rattle.frames.specs.Frames.{framed};
 ghost use Rattle.switch.specs.Respond.Status.{Unset};
+ghost use Rattle.serve.specs.declared.whole.ServeError.TheVariants.{OutOfMemory};
 ghost use Rattle.serve.specs.Served.{answers_to, stream_words, Fails};
 
-use crate::stream::serve_whole;
+use crate::form::Form;
+use crate::server::Server;
 use buffer::Head;
-use ideal::IdealBox;
 use std::alloc::{AllocError, Global};
 use std::fmt;
-use switch::Switch;
+use switch::{Switch, best_box};
 
 // Why a stream was not served.
 #[derive(Clone, Copy)]
 pub enum ServeError {
     TooLittleLent,
     OutOfMemory,
+}
+
+impl From<AllocError> for ServeError {
+    ghost from_gives = { λ _ r. r ≡ OutOfMemory };
+
+    fn from(_error: AllocError) -> ServeError {
+        ServeError::OutOfMemory
+    }
 }
 
 impl fmt::Display for ServeError {
@@ -45,10 +54,9 @@ pub fn answers_of<S: Switch>(
     requires { S.Switch.shows switch.old Unset }
     ensures { IfOk result (λ v. v.items ≡ flat_map framed (answers_to Unset (stream_words input.now))) }
 {
-    let mut buffer = zeros::<2241>();
-    let mut out = Vec::new(heap);
-    serve_whole(switch, input, &mut buffer, &mut out)?;
-    Ok(out)
+    let mut server = Server::new(switch, Form::Frames, heap);
+    server.serve_whole(input)?;
+    Ok(server.into_answers())
 }
 
 // The answers of the ideal box to a whole stream of frames, whatever its bytes are and whatever is lent.
@@ -62,11 +70,6 @@ pub fn answers(
 ) -> Result<Vec<u8>, ServeError>
     ensures { MatchResult result (λ v. (v.items ≡ flat_map framed (answers_to Unset (stream_words input.now))) × (enough 32 256 heads.old cells.old rows.old spare.old ≡ true)) (λ e. Fails e (enough 32 256 heads.old cells.old rows.old spare.old)) }
 {
-    let Some(mut ideal) = IdealBox::new(heads, cells, rows, spare) else {
-        return Err(ServeError::TooLittleLent);
-    };
-    match answers_of(&mut ideal, heap, input) {
-        Ok(bytes) => Ok(bytes),
-        Err(_) => Err(ServeError::OutOfMemory),
-    }
+    let mut ideal = best_box(heads, cells, rows, spare).ok_or(ServeError::TooLittleLent)?;
+    Ok(answers_of(&mut ideal, heap, input)?)
 }

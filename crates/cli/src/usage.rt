@@ -1,0 +1,30 @@
+// How a program is used.
+use crate::fault::CliError;
+use std::fmt;
+
+// The parts of a usage that programs differ in: `takes` says what comes in and what comes out, and ends where it says
+// what is preceded by a length.
+#[derive(Clone, Copy)]
+pub struct Usage<'a> {
+    pub name: &'a str,
+    pub takes: &'a str,
+    pub hex: &'a str,
+}
+
+impl fmt::Display for Usage<'_> {
+    fn fmt<W: fmt::Write>(&self, f: &mut fmt::Formatter<W>) -> fmt::Result {
+        writeln!(f, "usage: {} [--hex] [--help]\n", self.name)?;
+        writeln!(
+            f,
+            "{} preceded by its length in two bytes, the high byte first.\n",
+            self.takes
+        )?;
+        writeln!(f, "  --hex   {}", self.hex)?;
+        write!(f, "  --help  this text")
+    }
+}
+
+// Says how to use a program.
+pub fn print_usage(rt: &HostRuntime, usage: Usage<'_>) -> Result<(), CliError> {
+    println!(rt; "{usage}").map_err(CliError::Output)
+}

@@ -1,0 +1,149 @@
+// A crowd that takes the words of a stream, and what is told of it.
+ghost use Rattle.std.specs.Prelude.{◌≡◌, ℕ, List, [], string_bytes};
+ghost use Rattle.crowd.specs.Crowd.{Status};
+ghost use Rattle.crowd.specs.State.{state, Shows};
+ghost use Rattle.ideal.specs.State as best;
+ghost use Rattle.switch.specs.Respond as respond;
+ghost use Rattle.switch.specs.Best as switch;
+
+use crate::tell::{
+    lines_of, picks_of, tell_differs, tell_leaves, tell_over, tell_settings, tell_slot, tell_waits,
+};
+use crossbox::Cell;
+use crowd::{Crowd, Due};
+use ideal::IdealBox;
+use serve::{Form, Service, zeros};
+use std::alloc::{AllocError, Global};
+use std::fmt::Write;
+use std::marker::Model;
+use switch::Switch;
+use words::{Kind, REFUSAL};
+
+// A crowd, the ideal box on the same slots, and the text of what happens.
+#[derive(Drop)]
+pub struct Telling<'b, 'c, 'i> {
+    crowd: &'b mut Crowd<'c>,
+    ideal: &'b mut IdealBox<'i>,
+    form: Form,
+    scratch: Vec<u8>,
+    real: [u8; 2241],
+    other: [u8; 2241],
+    text: String,
+}
+
+impl<'b, 'c, 'i> Model for Telling<'b, 'c, 'i> {
+    ghost Value = { List ℕ };
+
+    ghost view = { λ t. string_bytes t.text };
+
+    ghost invariant = { λ t. ((st : Status) × Shows (state t.crowd.now) st) × ((st : respond.Status) × switch.Shows (best.state t.ideal.now) st) };
+}
+
+impl<'b, 'c, 'i> Telling<'b, 'c, 'i> {
+    // Two boxes of which nothing was told yet.
+    pub fn new(
+        crowd: &'b mut Crowd<'c>,
+        ideal: &'b mut IdealBox<'i>,
+        form: Form,
+        heap: Global,
+    ) -> Telling<'b, 'c, 'i>
+        requires crowd { (st : Status) × Shows (state crowd.old) st }
+        requires ideal { (st : respond.Status) × switch.Shows (best.state ideal.old) st }
+        ensures { result ≡ [] }
+    {
+        Telling {
+            crowd,
+            ideal,
+            form,
+            scratch: Vec::new(heap),
+            real: zeros::<2241>(),
+            other: zeros::<2241>(),
+            text: String::new(heap),
+        }
+    }
+
+    // A first choice that was taken, with the answers of the crowd and of the ideal box.
+    fn tell_first(&mut self, picks: &[Option<Cell>; 32]) -> Result<(), AllocError> {
+        let lines = lines_of(self.crowd);
+        let text = &mut self.text;
+        writeln!(text, "choice 1")?;
+        tell_over(picks, text)?;
+        tell_leaves(lines, &self.real, text)?;
+        tell_differs(lines, &self.real, &self.other, text)
+    }
+
+    // A second choice that was taken.
+    fn tell_second(&mut self, picks: &[Option<Cell>; 32]) -> Result<(), AllocError> {
+        writeln!(self.text, "choice 2")?;
+        tell_over(picks, &mut self.text)?;
+        tell_waits(self.crowd, &mut self.text)
+    }
+
+    // Takes a word, as it is written, the ideal box too unless it is a choice, and adds what
+    // happened to the text.
+    fn tell_word(&mut self, written: &[u8]) -> Result<(), AllocError> {
+        let word = self.form.read(written, &mut self.scratch)?;
+        let due = self.crowd.due();
+        let picks = picks_of(self.crowd, word);
+        let real = &mut self.real;
+        let size = self.crowd.answer(word, real);
+        if let Some([REFUSAL, fault]) = real.get(..size) {
+            return writeln!(self.text, "refused {fault}");
+        }
+        match Kind::of(word) {
+            Kind::Settings => {
+                let _ = self.ideal.answer(word, &mut self.other);
+                tell_settings(self.crowd, &mut self.text)
+            }
+            Kind::Slot => {
+                let _ = self.ideal.answer(word, &mut self.other);
+                tell_slot(self.crowd, &mut self.text)
+            }
+            Kind::Choice => match due {
+                Due::First => self.tell_first(&picks),
+                _ => self.tell_second(&picks),
+            },
+            Kind::Unknown => Ok(()),
+        }
+    }
+
+    // Ends with the text.
+    pub fn into_text(self) -> String
+        ensures { string_bytes result ≡ self.entry }
+    {
+        let Telling { text, .. } = self;
+        text
+    }
+}
+
+impl<'b, 'c, 'i> Service for Telling<'b, 'c, 'i> {
+    ghost serves = { λ _ _ _ _. Unit {0} };
+
+    ghost ends = { λ _ _ _ _. Unit {0} };
+
+    ghost writes = { λ t. t };
+
+    fn serve(&mut self, input: &[u8]) -> Result<usize, AllocError> {
+        let mut rest = input;
+        while let Some(taken) = self.form.next(rest) {
+            self.tell_word(taken.word)?;
+            rest = taken.rest;
+        }
+        Ok(input.len() - rest.len())
+    }
+
+    fn end(&mut self, left: &[u8]) -> Result<(), AllocError> {
+        match self.form.last(left) {
+            Some(written) => self.tell_word(written),
+            None => Ok(()),
+        }
+    }
+
+    fn output(&self) -> &[u8] {
+        self.text.as_bytes()
+    }
+
+    fn clear(&mut self) {
+        self.text.clear();
+    }
+}
