@@ -1,5 +1,5 @@
 // The loop of a program: reads large pieces, serves what has come, and writes what comes of it before it waits for more.
-ghost use Rattle.std.specs.Prelude.{◌≡◌, ℕ, ◌≤◌, length, IfOk};
+ghost use Rattle.std.specs.Prelude.{◌≡◌, ◌≤◌, length, IfOk};
 ghost use Rattle.switch.specs.Respond.{Status};
 
 use crate::args::{Request, read_args};
@@ -58,7 +58,7 @@ pub fn run<S: Switch>(rt: &HostRuntime, name: &str, switch: &mut S) -> Result<()
             rt,
             Usage {
                 name,
-                takes: "Takes words on standard input and writes their answers to standard output.\nEach is",
+                takes: "Takes words on standard input and writes their answers to standard output.\nEach is preceded by its length in two bytes, the high byte first.",
                 hex: "one word to a line in hexadecimal digits, answers likewise",
             },
         ),

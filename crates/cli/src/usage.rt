@@ -2,8 +2,7 @@
 use crate::fault::CliError;
 use std::fmt;
 
-// The parts of a usage that programs differ in: `takes` says what comes in and what comes out, and ends where it says
-// what is preceded by a length.
+// What programs differ in: the name, what comes in and what comes out, and what `--hex` means.
 #[derive(Clone, Copy)]
 pub struct Usage<'a> {
     pub name: &'a str,
@@ -14,11 +13,7 @@ pub struct Usage<'a> {
 impl fmt::Display for Usage<'_> {
     fn fmt<W: fmt::Write>(&self, f: &mut fmt::Formatter<W>) -> fmt::Result {
         writeln!(f, "usage: {} [--hex] [--help]\n", self.name)?;
-        writeln!(
-            f,
-            "{} preceded by its length in two bytes, the high byte first.\n",
-            self.takes
-        )?;
+        writeln!(f, "{}\n", self.takes)?;
         writeln!(f, "  --hex   {}", self.hex)?;
         write!(f, "  --help  this text")
     }

@@ -19,7 +19,7 @@ const ROWS: usize = 64 * PLACES;
 // How to use the program.
 const USAGE: Usage<'static> = Usage {
     name: "crowd",
-    takes: "Takes settings, slots and choices, two after each slot, on standard input and prints what happens, line by line.\nEach word is",
+    takes: "Takes settings, slots and choices, two after each slot, on standard input and prints what happens, line by line.\nEach word is preceded by its length in two bytes, the high byte first.",
     hex: "one word to a line in hexadecimal digits",
 };
 

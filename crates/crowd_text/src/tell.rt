@@ -1,5 +1,5 @@
 // A few lines of text for each word: the first word of a line says what it is.
-ghost use Rattle.std.specs.Prelude.{ℕ, ◌<◌, ◌≤◌};
+ghost use Rattle.std.specs.Prelude.{◌<◌, ◌≤◌};
 ghost use Rattle.crowd.specs.Crowd.{Status};
 ghost use Rattle.crowd.specs.State.{state, Shows};
 

@@ -107,6 +107,15 @@ impl<'b, 'c, 'i> Telling<'b, 'c, 'i> {
         }
     }
 
+    // Ends with both boxes as they are now.
+    pub fn into_boxes(self) -> (&'b mut Crowd<'c>, &'b mut IdealBox<'i>)
+        ensures crowd { (st : Status) × Shows (state result.0.now) st }
+        ensures ideal { (st : respond.Status) × switch.Shows (best.state result.1.now) st }
+    {
+        let Telling { crowd, ideal, .. } = self;
+        (crowd, ideal)
+    }
+
     // Ends with the text.
     pub fn into_text(self) -> String
         ensures { string_bytes result ≡ self.entry }
@@ -122,6 +131,8 @@ impl<'b, 'c, 'i> Service for Telling<'b, 'c, 'i> {
     ghost ends = { λ _ _ _ _. Unit {0} };
 
     ghost writes = { λ t. t };
+
+    ghost cleared = { λ _. [] };
 
     fn serve(&mut self, input: &[u8]) -> Result<usize, AllocError> {
         let mut rest = input;

@@ -15,7 +15,7 @@ pub taken_none : (n : ℕ) (bytes : List ℕ) → length bytes < n → taken n b
 taken_none n bytes h = ap (λ b. cond b (Some (take n bytes, drop n bytes)) None) (lt-leb n (length bytes) h)
 
 -- what was taken is the first bytes, of which there are enough
-taken_is :
+pub taken_is :
     (n : ℕ) (bytes : List ℕ) (p : List ℕ × List ℕ) →
     taken n bytes ≡ Some p → (n ≤ length bytes) × (p.0 ≡ take n bytes) × (p.1 ≡ drop n bytes)
 taken_is n bytes p e =

@@ -18,7 +18,7 @@ unfolding next_line
 line_goes_on c cs e = ap (λ b. cond b (Some ([], cs)) (longer c (next_line cs))) e
 
 -- what was taken after one more character was taken before it
-longer-is :
+pub longer-is :
     (c : ℕ) (t : Taken) (p : List ℕ × List ℕ) →
     longer c t ≡ Some p → (q : List ℕ × List ℕ) × (t ≡ Some q) × (p ≡ (c ∷ q.0, q.1))
 longer-is c None p e = absurd (grind arith)

@@ -1,12 +1,12 @@
 -- The loop: how far a stream is served, when it is all served, and where memory gives out.
-use Rattle.std.proofs.Common.{◌≡◌, ℕ, ◌+◌, ◌-◌, ◌*◌, ◌≤◌, cond, eqb, leb, List, [], ◌∷◌, ◌++◌, map, length, take, drop, Some, None, sym, refl, ap, ◌∙◌, subst, inl, inr, append_assoc, append-nil, arith}
+use Rattle.std.proofs.Common.{◌≡◌, ℕ, ◌+◌, ◌-◌, ◌*◌, ◌≤◌, eqb, List, [], ◌∷◌, ◌++◌, map, length, take, drop, Some, None, sym, refl, ap, ◌∙◌, subst, inl, inr, append_assoc, append-nil, arith}
 use Rattle.std.proofs.lemmas.List.{length-append, drop_at, take-append-drop}
 use Rattle.std.proofs.lemmas.Bool.{cases_Bool}
 use Rattle.frames.specs.Streams.{Taken, Split}
-use Rattle.frames.specs.Frames.{byte_values, taken, next_frame}
-use Rattle.frames.specs.Hex.{line_feed, longer, next_line}
-use Rattle.frames.proofs.Frames.{frames-none, frames-some}
-use Rattle.frames.proofs.Lines.{lines_none, lines-some, line_ends, line_goes_on}
+use Rattle.frames.specs.Frames.{byte_values, next_frame}
+use Rattle.frames.specs.Hex.{line_feed, next_line}
+use Rattle.frames.proofs.Frames.{taken_is, frames-none, frames-some}
+use Rattle.frames.proofs.Lines.{longer-is, lines_none, lines-some, line_ends, line_goes_on}
 use Rattle.switch.specs.Respond.{Status}
 use Rattle.serve.specs.declared.form.Form.{Form}
 use Rattle.serve.specs.declared.form.Form.TheVariants.{Frames, Lines}
@@ -19,28 +19,13 @@ use Rattle.serve.proofs.Turns.{served-none, served-append, stopped-behind, stopp
 abbrev pub Behind : List ℕ → List ℕ → Type 0
 Behind bytes rest = (front : List ℕ) × (bytes ≡ front ++ rest)
 
-behind-taken : (n : ℕ) (bytes w rest : List ℕ) → taken n bytes ≡ Some (w, rest) → Behind bytes rest
-behind-taken n bytes w rest e =
-    elim (cases_Bool (leb n (length bytes))) [
-      | inl t ↦ let s : ◌≡◌ {A = Taken} (Some (take n bytes, drop n bytes)) (Some (w, rest)) =
-          sym (ap (λ b. cond b (Some (take n bytes, drop n bytes)) None) t) ∙ e in
-          let d : drop n bytes ≡ rest = grind arith in
-          (take n bytes, sym (take-append-drop n bytes) ∙ ap (λ z. take n bytes ++ z) d)
-      | inr f ↦ let s : ◌≡◌ {A = Taken} None (Some (w, rest)) =
-          sym (ap (λ b. cond b (Some (take n bytes, drop n bytes)) None) f) ∙ e in absurd (grind arith)
-    ]
-
 behind_frame : (bytes w rest : List ℕ) → next_frame bytes ≡ Some (w, rest) → Behind bytes rest
 behind_frame [] w rest e = absurd (grind arith)
 behind_frame (high ∷ []) w rest e = absurd (grind arith)
 behind_frame (high ∷ low ∷ bytes) w rest e =
-    let b = behind-taken (high * byte_values + low) bytes w rest e in (high ∷ low ∷ b.0, ap (λ z. high ∷ low ∷ z) b.1)
-
-longer-some :
-    (c : ℕ) (t : Taken) (w rest : List ℕ) → longer c t ≡ Some (w, rest) → (v : List ℕ) × (t ≡ Some (v, rest))
-longer-some c None w rest e = absurd (grind arith)
-longer-some c (Some p) w rest e =
-    let d : p.1 ≡ rest = grind arith in (p.0, ap (λ z. Some (p.0, z)) d)
+    let n : ℕ = high * byte_values + low in
+    let t = taken_is n bytes (w, rest) e in
+    (high ∷ low ∷ take n bytes, ap (λ z. high ∷ low ∷ z) (sym (take-append-drop n bytes) ∙ ap (λ z. take n bytes ++ z) (sym t.2)))
 
 behind_line : (bytes w rest : List ℕ) → next_line bytes ≡ Some (w, rest) → Behind bytes rest
 unfolding next_line
@@ -49,8 +34,9 @@ behind_line (c ∷ cs) w rest e =
     elim (cases_Bool (eqb c line_feed)) [
       | inl t ↦ let s : ◌≡◌ {A = Taken} (Some ([], cs)) (Some (w, rest)) = sym (line_ends c cs t) ∙ e in
           let d : cs ≡ rest = grind arith in (c ∷ [], ap (λ z. c ∷ z) d)
-      | inr f ↦ let q = longer-some c (next_line cs) w rest (sym (line_goes_on c cs f) ∙ e) in
-          let b = behind_line cs q.0 rest q.1 in (c ∷ b.0, ap (λ z. c ∷ z) b.1)
+      | inr f ↦ let q = longer-is c (next_line cs) (w, rest) (sym (line_goes_on c cs f) ∙ e) in
+          let b = behind_line cs q.0.0 q.0.1 q.1 in
+          (c ∷ b.0, ap (λ z. c ∷ z) (b.1 ∙ ap (λ (p : List ℕ × List ℕ). b.0 ++ p.1) (sym q.2)))
     ]
 
 -- one word is taken from the start of the bytes, or none can be

@@ -1,5 +1,5 @@
 // How words are written in a stream.
-ghost use Rattle.std.specs.Prelude.{◌≡◌, ℕ, ◌<◌, [], ◌∷◌, ◌++◌, Some, None, is_ok, if◌then◌else◌, length, IfSome, IfOk, MatchOption};
+ghost use Rattle.std.specs.Prelude.{◌≡◌, ◌<◌, [], ◌∷◌, ◌++◌, Some, None, is_ok, if◌then◌else◌, length, IfSome, IfOk, MatchOption};
 ghost use Rattle.frames.specs.Frames.{frame_limit};
 ghost use Rattle.serve.specs.Form.{spelled, taken, word_in, ending};
 

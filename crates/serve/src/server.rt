@@ -1,8 +1,6 @@
 // A switch that serves the words of a stream.
-ghost use Rattle.std.specs.Prelude.{◌≡◌, ℕ, ◌≤◌, [], ◌∷◌, drop, MatchResult};
-ghost use Rattle.std.specs.List.{flat_map};
+ghost use Rattle.std.specs.Prelude.{◌≡◌, [], ◌∷◌};
 ghost use Rattle.switch.specs.Respond.{Status};
-ghost use Rattle.serve.specs.Served.{Used};
 ghost use Rattle.serve.specs.Form.{cut, ending, whole_words, word_in};
 ghost use Rattle.serve.specs.Serving.{Serving, Serves, ServesUpTo};
 
@@ -67,6 +65,14 @@ impl<'a, S: Switch> Server<'a, S> {
         self.end(&input[used..])
     }
 
+    // Ends with the switch as it is now.
+    pub fn into_switch(self) -> &'a mut S
+        ensures { result.now ≡ self.entry.switch }
+    {
+        let Server { switch, .. } = self;
+        switch
+    }
+
     // Ends with the answers.
     pub fn into_answers(self) -> Vec<u8>
         ensures { result.items ≡ self.entry.answers }
@@ -82,6 +88,8 @@ impl<'a, S: Switch> Service for Server<'a, S> {
     ghost ends = { λ was left r is. Serves r S.Switch.shows (ending was.form left) was is };
 
     ghost writes = { λ s. s.answers };
+
+    ghost cleared = { λ s. record { switch = s.switch; form = s.form; answers = [] } };
 
     fn serve(&mut self, input: &[u8]) -> Result<usize, AllocError> {
         let mut rest = input;
@@ -103,9 +111,7 @@ impl<'a, S: Switch> Service for Server<'a, S> {
         &self.out
     }
 
-    fn clear(&mut self)
-        ensures { self.new ≡ record { switch = self.old.switch; form = self.old.form; answers = [] } }
-    {
+    fn clear(&mut self) {
         self.out.clear();
     }
 }

@@ -23,6 +23,9 @@ pub trait Service {
     // what was written
     ghost writes: { Self → List ℕ };
 
+    // the same with nothing written
+    ghost cleared: { Self → Self };
+
     // Serves all whole words at the start of the input; gives how many bytes they take.
     fn serve(&mut self, input: &[u8]) -> Result<usize, AllocError>
         ensures serves { serves self.old input.now result self.new }
@@ -38,7 +41,8 @@ pub trait Service {
 
     // Lets go of what was written.
     fn clear(&mut self)
-        ensures { writes self.new ≡ [] };
+        ensures cleared { self.new ≡ cleared self.old }
+        ensures empty { writes self.new ≡ [] };
 }
 
 // What serves the words, and the bytes that begin no whole word yet.
