@@ -12,12 +12,8 @@ pub enum Request {
 
 // Reads the arguments behind the program's own name.
 pub fn read_args(rt: &HostRuntime) -> Result<Request, CliError> {
-    let args = match env::args(rt) {
-        Ok(args) => args,
-        Err(e) => return Err(CliError::BadArguments(e)),
-    };
     let mut request = Request::Serve(Form::Frames);
-    for arg in args.skip(1) {
+    for arg in env::args(rt).map_err(CliError::BadArguments)?.skip(1) {
         match arg.as_str() {
             "--help" => return Ok(Request::Help),
             "--hex" => request = Request::Serve(Form::Lines),

@@ -4,7 +4,9 @@
 mod args;
 mod fault;
 mod program;
+mod usage;
 
 pub use args::{Request, read_args};
 pub use fault::CliError;
-pub use program::{read_piece, report, run, write_answers};
+pub use program::{report, run, serve_input};
+pub use usage::{Usage, print_usage};

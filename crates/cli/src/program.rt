@@ -1,81 +1,52 @@
-// The loop of a program: reads large pieces, serves what has come, and writes the answers before it waits for more.
-ghost use Rattle.std.specs.Prelude.{◌≡◌, ℕ, ◌≤◌, length, MatchResult};
+// The loop of a program: reads large pieces, serves what has come, and writes what comes of it before it waits for more.
+ghost use Rattle.std.specs.Prelude.{◌≡◌, ◌≤◌, length, IfOk};
 ghost use Rattle.switch.specs.Respond.{Status};
 
 use crate::args::{Request, read_args};
 use crate::fault::CliError;
-use serve::{Form, serve_end, serve_pending, zeros};
+use crate::usage::{Usage, print_usage};
+use serve::{Server, Service, Stream};
 use std::io::Read;
 use switch::Switch;
 
 // How many bytes are read at once.
 const PIECE: usize = 65536;
 
-// Says how to use the program.
-fn print_usage(rt: &HostRuntime, name: &str) -> Result<(), CliError> {
-    let printed = println!(rt;
-        "usage: {name} [--hex] [--help]\n\nTakes words on standard input and writes their answers to standard output.\nEach is preceded by its length in two bytes, the high byte first.\n\n  --hex   one word to a line in hexadecimal digits, answers likewise\n  --help  this text"
-    );
-    match printed {
-        Ok(()) => Ok(()),
-        Err(e) => Err(CliError::Output(e)),
-    }
+// Reads what has come; no byte at the end of the input.
+fn read_piece(rt: &HostRuntime, piece: &mut [u8]) -> Result<usize, CliError>
+    ensures { IfOk result (λ count. count ≤ length piece.new) }
+{
+    rt.stdin().read(piece).map_err(CliError::Input)
 }
 
-// Reads what has come to the end of what is pending; false at the end of the input.
-pub fn read_piece(
-    rt: &HostRuntime,
-    piece: &mut [u8],
-    pending: &mut Vec<u8>,
-) -> Result<bool, CliError> {
-    let mut input = rt.stdin();
-    let count = match input.read(piece) {
-        Ok(count) => count,
-        Err(e) => return Err(CliError::Input(e)),
-    };
-    pending.extend_from_slice(&piece[0..count])?;
-    Ok(count > 0)
-}
-
-// Writes the answers, and lets go of them.
-pub fn write_answers(rt: &HostRuntime, out: &mut Vec<u8>) -> Result<(), CliError> {
-    if out.is_empty() {
+// Writes what a service has written, and lets go of it.
+fn write_output<S: Service>(rt: &HostRuntime, service: &mut S) -> Result<(), CliError> {
+    if service.output().is_empty() {
         return Ok(());
     }
-    let written = rt.write_all(out);
-    out.clear();
-    match written {
-        Ok(()) => Ok(()),
-        Err(e) => Err(CliError::Output(e)),
-    }
+    let written = rt.write_all(service.output());
+    service.clear();
+    written.map_err(CliError::Output)
 }
 
 // Serves the whole input.
-fn serve_input<S: Switch>(rt: &HostRuntime, switch: &mut S, form: Form) -> Result<(), CliError>
-    requires { (st : Status) × S.Switch.shows switch.old st }
-{
+pub fn serve_input<S: Service + Drop>(rt: &HostRuntime, service: S) -> Result<(), CliError> {
     let heap = rt.alloc();
     let mut piece = vec![in heap; 0u8; PIECE]?;
-    let mut buffer = zeros::<2241>();
-    let mut pending = Vec::new(heap);
-    let mut scratch = Vec::new(heap);
-    let mut out = Vec::new(heap);
+    let mut stream = Stream {
+        service,
+        pending: Vec::new(heap),
+    };
     for _ in 0..u64::MAX {
-        if !read_piece(rt, &mut piece, &mut pending)? {
+        let count = read_piece(rt, &mut piece)?;
+        if count == 0 {
             break;
         }
-        serve_pending(
-            switch,
-            form,
-            &mut pending,
-            &mut scratch,
-            &mut buffer,
-            &mut out,
-        )?;
-        write_answers(rt, &mut out)?;
+        stream.take(&piece[..count])?;
+        write_output(rt, &mut stream.service)?;
     }
-    serve_end(switch, form, &pending, &mut scratch, &mut buffer, &mut out)?;
-    write_answers(rt, &mut out)
+    stream.end()?;
+    write_output(rt, &mut stream.service)
 }
 
 // Does what the arguments ask for.
@@ -83,8 +54,15 @@ pub fn run<S: Switch>(rt: &HostRuntime, name: &str, switch: &mut S) -> Result<()
     requires { (st : Status) × S.Switch.shows switch.old st }
 {
     match read_args(rt)? {
-        Request::Help => print_usage(rt, name),
-        Request::Serve(form) => serve_input(rt, switch, form),
+        Request::Help => print_usage(
+            rt,
+            Usage {
+                name,
+                takes: "Takes words on standard input and writes their answers to standard output.\nEach is preceded by its length in two bytes, the high byte first.",
+                hex: "one word to a line in hexadecimal digits, answers likewise",
+            },
+        ),
+        Request::Serve(form) => serve_input(rt, Server::new(switch, form, rt.alloc())),
     }
 }
 

@@ -1,8 +1,7 @@
 // What is printed of the words that a crowd takes, with the ideal box beside it on the same slots.
 #![tactic(auto)]
 
-mod stream;
 mod tell;
+mod telling;
 
-pub use stream::{tell_end, tell_stream};
-pub use tell::tell_word;
+pub use telling::Telling;

@@ -1,33 +1,24 @@
 // A few lines of text for each word: the first word of a line says what it is.
-ghost use Rattle.std.specs.Prelude.{ℕ, ◌<◌, ◌≤◌};
+ghost use Rattle.std.specs.Prelude.{◌<◌, ◌≤◌};
 ghost use Rattle.crowd.specs.Crowd.{Status};
 ghost use Rattle.crowd.specs.State.{state, Shows};
-ghost use Rattle.ideal.specs.State as best;
-ghost use Rattle.switch.specs.Respond as respond;
-ghost use Rattle.switch.specs.Best as switch;
 
 use crossbox::Cell;
-use crowd::{Crowd, Due, differs, next_part};
-use ideal::IdealBox;
+use crowd::{Crowd, differs, next_part};
 use std::alloc::AllocError;
 use std::fmt::Write;
-use switch::Switch;
-use words::{Kind, REFUSAL};
-
-// The most lines.
-const MOST: u8 = 32;
+use words::{Answer, MOST_LINES};
 
 // The number of lines, as small as it is known to be.
-fn lines_of(crowd: &Crowd<'_>) -> u8
+pub(crate) fn lines_of(crowd: &Crowd<'_>) -> u8
     ensures few { result ≤ 32 }
     ensures there { result ≤ (state crowd.now).real.lines }
 {
-    let lines = crowd.lines();
-    if lines < MOST { lines } else { MOST }
+    crowd.lines().min(MOST_LINES as u8)
 }
 
 // The cells that a word transfers, by input, if it is a choice that is taken.
-fn picks_of(crowd: &Crowd<'_>, word: &[u8]) -> [Option<Cell>; 32]
+pub(crate) fn picks_of(crowd: &Crowd<'_>, word: &[u8]) -> [Option<Cell>; 32]
     requires { (st : Status) × Shows (state crowd.now) st }
 {
     let mut picks = [None; 32];
@@ -47,19 +38,22 @@ fn picks_of(crowd: &Crowd<'_>, word: &[u8]) -> [Option<Cell>; 32]
 }
 
 // The cells that were transferred.
-fn tell_over(picks: &[Option<Cell>; 32], out: &mut String) -> Result<(), AllocError> {
+pub(crate) fn tell_over(picks: &[Option<Cell>; 32], out: &mut String) -> Result<(), AllocError> {
     for (input, pick) in picks.iter().enumerate() {
         if let Some(cell) = pick {
-            let output = cell.output;
-            let slot = cell.slot;
-            writeln!(out, "over {input} {output} {slot}")?;
+            writeln!(out, "over {input} {} {}", cell.output, cell.slot)?;
         }
     }
     Ok(())
 }
 
-// What leaves by each output, by an answer behind its first byte.
-fn tell_leaves(n: u8, answer: &[u8], out: &mut String) -> Result<(), AllocError> {
+// The bytes of an answer behind its kind.
+pub(crate) fn departures(answer: &Answer) -> &[u8] {
+    answer.as_bytes().get(1..).unwrap_or(&[])
+}
+
+// What leaves by each output, by an answer behind its kind.
+pub(crate) fn tell_leaves(n: u8, answer: &[u8], out: &mut String) -> Result<(), AllocError> {
     let mut rest = answer;
     for output in 0..n {
         let part = next_part(rest);
@@ -72,20 +66,23 @@ fn tell_leaves(n: u8, answer: &[u8], out: &mut String) -> Result<(), AllocError>
     Ok(())
 }
 
-// Where two answers tell of other departures.
-fn tell_differs(n: u8, real: &[u8], ideal: &[u8], out: &mut String) -> Result<(), AllocError>
+// Where two answers, behind their kinds, tell of other departures.
+pub(crate) fn tell_differs(
+    n: u8,
+    real: &[u8],
+    ideal: &[u8],
+    out: &mut String,
+) -> Result<(), AllocError>
     requires { n ≤ 32 }
 {
     let found = differs(real, ideal, n);
-    let mut same = true;
-    for output in 0..n {
-        if found[output as usize] {
-            same = false;
+    if !found.contains(&true) {
+        return writeln!(out, "same");
+    }
+    for (output, differ) in found.iter().enumerate() {
+        if *differ {
             writeln!(out, "differs {output}")?;
         }
-    }
-    if same {
-        writeln!(out, "same")?;
     }
     Ok(())
 }
@@ -97,19 +94,18 @@ fn tell_list(crowd: &Crowd<'_>, input: u8, out: &mut String) -> Result<(), Alloc
 {
     for k in 0..crowd.waiting(input) {
         let cell = crowd.waiting_cell(input, k);
-        let output = cell.output;
-        let slot = cell.slot;
         let earlier = crowd.earlier_stored(cell);
         writeln!(
             out,
-            "waits {input} {output} {slot} before {k} earlier {earlier}"
+            "waits {input} {} {} before {k} earlier {earlier}",
+            cell.output, cell.slot
         )?;
     }
     Ok(())
 }
 
 // The cells that wait, by input and place.
-fn tell_waits(crowd: &Crowd<'_>, out: &mut String) -> Result<(), AllocError>
+pub(crate) fn tell_waits(crowd: &Crowd<'_>, out: &mut String) -> Result<(), AllocError>
     requires { (st : Status) × Shows (state crowd.now) st }
 {
     for input in 0..lines_of(crowd) {
@@ -119,10 +115,8 @@ fn tell_waits(crowd: &Crowd<'_>, out: &mut String) -> Result<(), AllocError>
 }
 
 // A slot that was taken: its number, and whose cells it turned away.
-fn tell_slot(crowd: &Crowd<'_>, out: &mut String) -> Result<(), AllocError> {
-    let slots = crowd.slots();
-    let slot = if slots > 0 { slots - 1 } else { 0 };
-    writeln!(out, "slot {slot}")?;
+pub(crate) fn tell_slot(crowd: &Crowd<'_>, out: &mut String) -> Result<(), AllocError> {
+    writeln!(out, "slot {}", crowd.slots().saturating_sub(1))?;
     for input in 0..lines_of(crowd) {
         if crowd.turned_away(input) {
             writeln!(out, "away {input}")?;
@@ -131,109 +125,7 @@ fn tell_slot(crowd: &Crowd<'_>, out: &mut String) -> Result<(), AllocError> {
     Ok(())
 }
 
-// A first choice that was taken, with the answers of the crowd and of the ideal box.
-fn tell_first(
-    crowd: &Crowd<'_>,
-    picks: &[Option<Cell>; 32],
-    real: &[u8; 2241],
-    ideal: &[u8; 2241],
-    out: &mut String,
-) -> Result<(), AllocError> {
-    let lines = lines_of(crowd);
-    writeln!(out, "choice 1")?;
-    tell_over(picks, out)?;
-    tell_leaves(lines, &real[1..], out)?;
-    tell_differs(lines, &real[1..], &ideal[1..], out)
-}
-
-// A second choice that was taken.
-fn tell_second(
-    crowd: &Crowd<'_>,
-    picks: &[Option<Cell>; 32],
-    out: &mut String,
-) -> Result<(), AllocError>
-    requires { (st : Status) × Shows (state crowd.now) st }
-{
-    writeln!(out, "choice 2")?;
-    tell_over(picks, out)?;
-    tell_waits(crowd, out)
-}
-
-// A choice that was taken.
-fn tell_choice(
-    crowd: &Crowd<'_>,
-    due: Due,
-    picks: &[Option<Cell>; 32],
-    real: &[u8; 2241],
-    ideal: &[u8; 2241],
-    out: &mut String,
-) -> Result<(), AllocError>
-    requires { (st : Status) × Shows (state crowd.now) st }
-{
-    match due {
-        Due::First => tell_first(crowd, picks, real, ideal, out),
-        _ => tell_second(crowd, picks, out),
-    }
-}
-
 // Settings that were taken.
-fn tell_settings(crowd: &Crowd<'_>, out: &mut String) -> Result<(), AllocError> {
-    let lines = crowd.lines();
-    writeln!(out, "settings {lines}")
-}
-
-// What was refused.
-fn tell_refusal(real: &[u8; 2241], out: &mut String) -> Result<(), AllocError> {
-    let fault = real[1];
-    writeln!(out, "refused {fault}")
-}
-
-// The crowd's answer to a word.
-fn answer_crowd(crowd: &mut Crowd<'_>, word: &[u8], real: &mut [u8; 2241]) -> usize
-    requires { (st : Status) × Shows (state crowd.old) st }
-    ensures { (st : Status) × Shows (state crowd.new) st }
-{
-    crowd.answer(word, real)
-}
-
-// The ideal box's answer to a word.
-fn answer_ideal(ideal: &mut IdealBox<'_>, word: &[u8], out: &mut [u8; 2241]) -> usize
-    requires { (st : respond.Status) × switch.Shows (best.state ideal.old) st }
-    ensures { (st : respond.Status) × switch.Shows (best.state ideal.new) st }
-{
-    ideal.answer(word, out)
-}
-
-// Takes a word, the ideal box too unless it is a choice, and adds what happened to the text.
-pub fn tell_word(
-    crowd: &mut Crowd<'_>,
-    ideal: &mut IdealBox<'_>,
-    word: &[u8],
-    real: &mut [u8; 2241],
-    other: &mut [u8; 2241],
-    out: &mut String,
-) -> Result<(), AllocError>
-    requires crowd { (st : Status) × Shows (state crowd.old) st }
-    requires ideal { (st : respond.Status) × switch.Shows (best.state ideal.old) st }
-    ensures crowd { (st : Status) × Shows (state crowd.new) st }
-    ensures ideal { (st : respond.Status) × switch.Shows (best.state ideal.new) st }
-{
-    let due = crowd.due();
-    let picks = picks_of(crowd, word);
-    let size = answer_crowd(crowd, word, real);
-    if size == 2 && real[0] == REFUSAL {
-        return tell_refusal(real, out);
-    }
-    match Kind::of(word) {
-        Kind::Settings => {
-            let _ = answer_ideal(ideal, word, other);
-            tell_settings(crowd, out)
-        }
-        Kind::Slot => {
-            let _ = answer_ideal(ideal, word, other);
-            tell_slot(crowd, out)
-        }
-        Kind::Choice => tell_choice(crowd, due, &picks, real, other, out),
-        Kind::Unknown => Ok(()),
-    }
+pub(crate) fn tell_settings(crowd: &Crowd<'_>, out: &mut String) -> Result<(), AllocError> {
+    writeln!(out, "settings {}", crowd.lines())
 }

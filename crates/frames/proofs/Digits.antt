@@ -1,6 +1,6 @@
 -- Digits: each is read back, and so are the digits of a word.
 use Rattle.std.proofs.Common.{◌≡◌, ℕ, ◌+◌, ◌*◌, ◌/◌, ◌%◌, ◌<◌, ◌≤◌, true, false, cond, eqb, List, [], ◌∷◌, ◌++◌, length, get_or, take, Some, None, Option, sym, refl, ap, ◌∙◌, append_assoc, append-nil, arith}
-use Rattle.std.proofs.lemmas.List.{length_push, take_more, take_all}
+use Rattle.std.proofs.lemmas.List.{length_push, take_more}
 use Rattle.std.proofs.lemmas.Bool.Decides.{nat_tests}
 use Rattle.std.specs.Option.{option_map}
 use Rattle.frames.specs.Hex.{blank, digit_value, digit, before, digit_values_of, paired, paired_if, digits, digit_values, line_feed, hex_line}
@@ -125,11 +125,3 @@ written_more before word was between after i high low h w eh e el f =
     ∙ ap (λ z. before ++ (digits (take i word) ++ z)) (sym (digits-one b))
     ∙ ap (λ z. before ++ z) (sym (digits_append (take i word) (b ∷ [])))
     ∙ ap (λ z. before ++ digits z) (sym (take_more word i 0 h))
-
-pub written_all :
-    (before word was after : List ℕ) (i : ℕ) →
-    length word ≤ i → Written before word i was → after ≡ was ++ line_feed ∷ [] → after ≡ before ++ hex_line word
-written_all before word was after i h w e =
-    e ∙ ap (λ z. z ++ line_feed ∷ []) w
-    ∙ append_assoc before (digits (take i word)) (line_feed ∷ [])
-    ∙ ap (λ z. before ++ (digits z ++ line_feed ∷ [])) (take_all i word h)

@@ -1,5 +1,5 @@
 -- Frames: what is taken, and what is read back.
-use Rattle.std.proofs.Common.{◌≡◌, ℕ, ◌+◌, ◌*◌, ◌/◌, ◌%◌, ◌<◌, ◌≤◌, cond, leb, List, [], ◌∷◌, ◌++◌, length, get_or, take, drop, Some, None, sym, ap, ◌∙◌, subst, inl, inr, append_assoc, arith}
+use Rattle.std.proofs.Common.{◌≡◌, ℕ, ◌+◌, ◌*◌, ◌/◌, ◌%◌, ◌<◌, ◌≤◌, cond, leb, List, [], ◌∷◌, ◌++◌, length, take, drop, Some, None, sym, ap, ◌∙◌, subst, inl, inr, arith}
 use Rattle.std.proofs.ByRecursion.{All-drop}
 use Rattle.std.proofs.lemmas.List.{length-append, length-drop, take-append-le, drop-append-le, take_at, drop_at, map-id, length-take-le, take-append-drop}
 use Rattle.std.proofs.lemmas.Bool.{le-leb, lt-leb, leb-true, cases_Bool}
@@ -15,7 +15,7 @@ pub taken_none : (n : ℕ) (bytes : List ℕ) → length bytes < n → taken n b
 taken_none n bytes h = ap (λ b. cond b (Some (take n bytes, drop n bytes)) None) (lt-leb n (length bytes) h)
 
 -- what was taken is the first bytes, of which there are enough
-taken_is :
+pub taken_is :
     (n : ℕ) (bytes : List ℕ) (p : List ℕ × List ℕ) →
     taken n bytes ≡ Some p → (n ≤ length bytes) × (p.0 ≡ take n bytes) × (p.1 ≡ drop n bytes)
 taken_is n bytes p e =
@@ -89,29 +89,3 @@ rejoins-first (high ∷ low ∷ bytes) p good e =
 
 pub frames_rejoin : FramesRejoin
 frames_rejoin = rejoins next_frame shrinks framed (AllByRecursion (λ b. b < byte_values)) rejoins-first
-
--- The calls, as the code has their facts.
-pub frame-taken :
-    (bytes behind : List ℕ) (size : ℕ) →
-    2 ≤ length bytes →
-    size ≡ get_or bytes 0 0 * byte_values + get_or bytes 1 0 →
-    behind ≡ drop 2 bytes → size ≤ length behind → next_frame bytes ≡ Some (take size behind, drop size behind)
-frame-taken [] behind size h is b k = absurd (omega arith)
-frame-taken (high ∷ []) behind size h is b k = absurd (omega arith)
-frame-taken (high ∷ low ∷ bytes) behind size h is b k =
-    rw (b, is) (taken-some (high * byte_values + low) bytes (omega (arith, ap length b)))
-
-pub frame_pushed :
-    (was reserved one two after word : List ℕ) (high low : ℕ) →
-    length word < frame_limit →
-    high ≡ length word / byte_values % byte_values →
-    low ≡ length word % byte_values →
-    reserved ≡ was →
-    one ≡ reserved ++ high ∷ [] → two ≡ one ++ low ∷ [] → after ≡ two ++ word → after ≡ was ++ framed word
-frame_pushed was reserved one two after word high low h i low-is e₀ e₁ e₂ e₃ =
-    let high_is : high ≡ length word / byte_values = omega arith in
-    e₃ ∙ ap (λ x. x ++ word) (e₂ ∙ ap (λ x. x ++ low ∷ []) (e₁ ∙ ap (λ x. x ++ high ∷ []) e₀))
-    ∙ append_assoc (was ++ high ∷ []) (low ∷ []) word
-    ∙ append_assoc was (high ∷ []) (low ∷ word)
-    ∙ ap (λ x. was ++ x ∷ low ∷ word) high_is
-    ∙ ap (λ x. was ++ length word / byte_values ∷ x ∷ word) low-is

@@ -1,8 +1,7 @@
 -- Lines: what is taken, and what is read back.
-use Rattle.std.proofs.Common.{◌≡◌, ℕ, ◌+◌, ◌<◌, ◌≤◌, true, false, cond, eqb, List, [], ◌∷◌, ◌++◌, length, get_or, take, drop, Some, None, sym, refl, ap, ◌∙◌, inl, inr, append_assoc, append-nil, arith}
-use Rattle.std.proofs.lemmas.List.{take_more, drop_more, drop_all}
+use Rattle.std.proofs.Common.{◌≡◌, ℕ, zero, suc, ◌+◌, ◌<◌, true, false, cond, eqb, List, [], ◌∷◌, ◌++◌, length, take, drop, Some, None, Option, MatchOption, sym, refl, ap, ◌∙◌, inl, inr, add-one, arith}
 use Rattle.std.proofs.lemmas.Bool.{cases_Bool, eq-eqb, ne_eqb, eqb-true}
-use Rattle.std.specs.List.{AllByRecursion}
+use Rattle.std.specs.List.{AllByRecursion, AllWithin, HoldsAt}
 use Rattle.frames.specs.Streams.{Taken}
 use Rattle.frames.specs.Hex.{digits, ended, hex_line, line_feed, longer, next_line, lines}
 use Rattle.frames.specs.Laws.{LinesSplit, LineRoundTrip, LinesRoundTrip, LinesRejoin}
@@ -19,7 +18,7 @@ unfolding next_line
 line_goes_on c cs e = ap (λ b. cond b (Some ([], cs)) (longer c (next_line cs))) e
 
 -- what was taken after one more character was taken before it
-longer-is :
+pub longer-is :
     (c : ℕ) (t : Taken) (p : List ℕ × List ℕ) →
     longer c t ≡ Some p → (q : List ℕ × List ℕ) × (t ≡ Some q) × (p ≡ (c ∷ q.0, q.1))
 longer-is c None p e = absurd (grind arith)
@@ -95,46 +94,29 @@ rejoins-first (c ∷ cs) p good e =
 pub lines_rejoin : LinesRejoin
 lines_rejoin bytes = rejoins next_line shrinks ended (λ bs. Unit {0}) rejoins-first bytes tt
 
--- what is taken where some characters stand before it in the line
-abbrev pub behind : List ℕ → Taken → Taken
-behind xs None = None
-behind xs (Some p) = Some (xs ++ p.0, p.1)
-
-pub behind_nil : (t : Taken) → behind [] t ≡ t
-behind_nil None = refl
-behind_nil (Some p) = refl
-
-behind-longer : (xs : List ℕ) (c : ℕ) (t : Taken) → behind (xs ++ c ∷ []) t ≡ behind xs (longer c t)
-behind-longer xs c None = refl
-behind-longer xs c (Some p) = ap (λ z. Some (z, p.1)) (append_assoc xs (c ∷ []) p.0)
-
--- The search for a line feed: none before i.
-abbrev pub Passed : List ℕ → ℕ → Type 0
-Passed bytes i = next_line bytes ≡ behind (take i bytes) (next_line (drop i bytes))
-
-pub passed_none : (bytes : List ℕ) → Passed bytes 0
-passed_none bytes = sym (behind_nil (next_line bytes))
-
-pub passed-more :
-    (bytes : List ℕ) (i : ℕ) →
-    i < length bytes → (get_or bytes i 0 ≡ line_feed → ⊥) → Passed bytes i → Passed bytes (i + 1)
-passed-more bytes i h ne before =
-    before
-    ∙ ap (λ z. behind (take i bytes) (next_line z)) (drop_more bytes i 0 h)
-    ∙ ap (behind (take i bytes)) (line_goes_on (get_or bytes i 0) (drop (i + 1) bytes) (ne_eqb (get_or bytes i 0) line_feed ne))
-    ∙ sym (behind-longer (take i bytes) (get_or bytes i 0) (next_line (drop (i + 1) bytes)))
-    ∙ ap (λ z. behind z (next_line (drop (i + 1) bytes))) (sym (take_more bytes i 0 h))
-
-pub passed-found :
+-- the line goes on to the first line feed
+line_found :
     (bytes : List ℕ) (i : ℕ) →
     i < length bytes →
-    get_or bytes i 0 ≡ line_feed → Passed bytes i → next_line bytes ≡ Some (take i bytes, drop (i + 1) bytes)
-passed-found bytes i h is before =
-    before
-    ∙ ap (λ z. behind (take i bytes) (next_line z)) (drop_more bytes i 0 h)
-    ∙ ap (behind (take i bytes)) (line_ends (get_or bytes i 0) (drop (i + 1) bytes) (eq-eqb (get_or bytes i 0) line_feed is))
-    ∙ ap (λ z. Some (z, drop (i + 1) bytes)) (append-nil (take i bytes))
+    HoldsAt (λ c. c ≡ line_feed) bytes i →
+    AllWithin (λ c. c ≡ line_feed → ⊥) bytes 0 i → next_line bytes ≡ Some (take i bytes, drop (suc i) bytes)
+line_found [] i h is none = absurd (omega arith)
+line_found (c ∷ cs) zero h is none = line_ends c cs (eq-eqb c line_feed (is 0))
+line_found (c ∷ cs) (suc i) h is none =
+    line_goes_on c cs (ne_eqb c line_feed (none 0 0 (omega arith) (omega arith)))
+    ∙ ap (longer c) (line_found cs i (omega arith) is (λ k d low high. none (suc k) d (omega arith) (omega arith)))
 
-pub passed_all : (bytes : List ℕ) (i : ℕ) → length bytes ≤ i → Passed bytes i → next_line bytes ≡ None
+line_missing : (bytes : List ℕ) → AllWithin (λ c. c ≡ line_feed → ⊥) bytes 0 (length bytes) → next_line bytes ≡ None
 unfolding next_line
-passed_all bytes i h before = before ∙ ap (λ z. behind (take i bytes) (next_line z)) (drop_all i bytes h)
+line_missing [] none = refl
+line_missing (c ∷ cs) none =
+    line_goes_on c cs (ne_eqb c line_feed (none 0 0 (omega arith) (omega arith)))
+    ∙ ap (longer c) (line_missing cs (λ k d low high. none (suc k) d (omega arith) (omega arith)))
+
+-- the first line, by the search for a line feed
+pub line_at :
+    (bytes : List ℕ) (end : Option ℕ) →
+    MatchOption end (AllWithin (λ c. c ≡ line_feed → ⊥) bytes 0 (length bytes)) (λ i. (i < length bytes) × HoldsAt (λ c. c ≡ line_feed) bytes i × AllWithin (λ c. c ≡ line_feed → ⊥) bytes 0 i) →
+    MatchOption end (next_line bytes ≡ None) (λ i. next_line bytes ≡ Some (take i bytes, drop (i + 1) bytes))
+line_at bytes None f = line_missing bytes f
+line_at bytes (Some i) f = rw add-one (line_found bytes i f.0 f.1 f.2)

@@ -2,30 +2,24 @@
 ghost use Rattle.std.specs.Prelude.{◌≡◌, ◌+◌, ◌<◌, ◌≤◌, true, ◌++◌, length, IfSome, is_ok, if◌then◌else◌, Some, None, vec_len, vec_capacity, MatchOption};
 ghost use Rattle.frames.specs.Frames.{frame_limit, framed, next_frame};
 
+use crate::Taken;
 use std::alloc::AllocError;
 
 // How many bytes the length of a word takes.
 const LENGTH_BYTES: usize = 2;
 
-// The word of the first frame of a stream, and the bytes behind it.
-#[derive(Clone, Copy)]
-pub struct Frame<'a> {
-    pub word: &'a [u8],
-    pub rest: &'a [u8],
-}
-
-// The first frame of a stream; None where the bytes end before it does.
-pub fn next_frame(bytes: &[u8]) -> Option<Frame<'_>>
-    ensures value { MatchOption result (next_frame bytes.now ≡ None) (λ f. next_frame bytes.now ≡ Some (f.word.now, f.rest.now)) }
-    ensures bound { IfSome result (λ f. length f.word.now < frame_limit) }
-    ensures shorter { IfSome result (λ f. length f.rest.now < length bytes.now) }
+// The word of the first frame of a stream; None where the bytes end before the frame does.
+pub fn next_frame(bytes: &[u8]) -> Option<Taken<'_>>
+    ensures value { MatchOption result (next_frame bytes.now ≡ None) (λ t. next_frame bytes.now ≡ Some (t.word.now, t.rest.now)) }
+    ensures bound { IfSome result (λ t. length t.word.now < frame_limit) }
+    ensures shorter { IfSome result (λ t. length t.rest.now < length bytes.now) }
 {
     let [high, low, behind @ ..] = bytes else {
         return None;
     };
     let size = u16::from_be_bytes([*high, *low]);
     let (word, rest) = behind.split_at_checked(usize::from(size))?;
-    Some(Frame { word, rest })
+    Some(Taken { word, rest })
 }
 
 // Adds the frame of a word to the end of `out`, or nothing where there is no memory for it.

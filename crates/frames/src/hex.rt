@@ -4,6 +4,7 @@ ghost use Rattle.std.specs.Option.{unwrap_or};
 ghost use Rattle.frames.specs.Hex.{digit_values, digits_per_byte, blank, digit_value, digit, unhex, hex_line, next_line};
 ghost use Rattle.frames.specs.Reading.{comes_to, begun, Digit};
 
+use crate::Taken;
 use std::alloc::AllocError;
 
 const SPACE: u8 = b' ';
@@ -23,13 +24,6 @@ const LETTER_VALUE: u8 = 10;
 // How many digits a byte has.
 const DIGITS_PER_BYTE: usize = 2;
 
-// The first line of a stream without its line feed, and the bytes behind it.
-#[derive(Clone, Copy)]
-pub struct Line<'a> {
-    pub text: &'a [u8],
-    pub rest: &'a [u8],
-}
-
 // A line of digits while it is read: whole bytes so far, a byte begun by its high digit, or no word.
 #[derive(Clone, Copy)]
 enum Reading {
@@ -38,20 +32,16 @@ enum Reading {
     Wrong,
 }
 
-// The first line of a stream; None where there is no line feed.
-pub fn next_line(bytes: &[u8]) -> Option<Line<'_>>
-    ensures value { MatchOption result (next_line bytes.now ≡ None) (λ l. next_line bytes.now ≡ Some (l.text.now, l.rest.now)) }
-    ensures shorter { IfSome result (λ l. length l.rest.now < length bytes.now) }
+// The first line of a stream without its line feed; None where there is no line feed.
+pub fn next_line(bytes: &[u8]) -> Option<Taken<'_>>
+    ensures value { MatchOption result (next_line bytes.now ≡ None) (λ t. next_line bytes.now ≡ Some (t.word.now, t.rest.now)) }
+    ensures shorter { IfSome result (λ t. length t.rest.now < length bytes.now) }
 {
-    for (i, c) in bytes.iter().enumerate() {
-        if *c == LINE_FEED {
-            return Some(Line {
-                text: &bytes[0..i],
-                rest: &bytes[i + 1..],
-            });
-        }
-    }
-    None
+    let end = bytes.iter().position(|c| *c == LINE_FEED)?;
+    Some(Taken {
+        word: &bytes[..end],
+        rest: &bytes[end + 1..],
+    })
 }
 
 // Makes `word` the word that a line spells, its line feed left out, and says whether it spells one.
@@ -81,10 +71,7 @@ pub fn push_hex_line(out: &mut Vec<u8>, word: &[u8]) -> Result<(), AllocError>
     ensures items { out.new.items ≡ (if is_ok result then out.old.items ++ hex_line word.now else out.old.items) }
     ensures succeeds { vec_len out.old + length (hex_line word.now) ≤ vec_capacity out.old → is_ok result ≡ true }
 {
-    let Some(size) = line_size(word) else {
-        return Err(AllocError);
-    };
-    out.reserve(size)?;
+    out.reserve(line_size(word).ok_or(AllocError)?)?;
     for b in word {
         out.push_reserved(hex_digit(*b / DIGIT_VALUES));
         out.push_reserved(hex_digit(*b % DIGIT_VALUES));
@@ -119,6 +106,7 @@ fn read_on(reading: Reading, c: u8, word: &mut Vec<u8>) -> Reading
 }
 
 // Whether a character is passed over.
+#[tactic(auto, using(std::proofs::lemmas::Bool::Decides::nat_tests), unfolding(crate::specs::Hex::blank))]
 fn is_blank(c: u8) -> bool
     ensures { result ≡ blank c }
 {
@@ -126,6 +114,7 @@ fn is_blank(c: u8) -> bool
 }
 
 // The value of a digit; None for any other character.
+#[tactic(auto, using(std::proofs::lemmas::Bool::Decides::nat_tests), unfolding(crate::specs::Hex::digit_value))]
 fn digit_value(c: u8) -> Option<u8>
     ensures value { result ≡ digit_value c }
     ensures bound { IfSome result (λ v. v < digit_values) }
@@ -139,6 +128,7 @@ fn digit_value(c: u8) -> Option<u8>
 }
 
 // The digit of a value.
+#[tactic(auto, using(std::proofs::lemmas::Bool::Decides::nat_tests), unfolding(crate::specs::Hex::digit))]
 fn hex_digit(value: u8) -> u8
     requires { value < digit_values }
     ensures { result ≡ digit value }

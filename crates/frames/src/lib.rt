@@ -4,3 +4,10 @@
 pub mod frame;
 pub mod hex;
 pub mod laws;
+
+// What is taken from the start of a stream: a word as its form writes it, and the bytes behind it.
+#[derive(Clone, Copy)]
+pub struct Taken<'a> {
+    pub word: &'a [u8],
+    pub rest: &'a [u8],
+}

@@ -1,19 +1,19 @@
 -- A stream that comes by pieces: what was served of it, and what is pending.
-use Rattle.std.proofs.Common.{◌≡◌, ℕ, Bool, true, cond, eqb, List, [], ◌∷◌, ◌++◌, map, length, is_ok, None, Ok, Err, Result, sym, refl, ap, ◌∙◌, subst, append_assoc, append-nil, arith}
-use Rattle.std.proofs.lemmas.Bool.{eqb-true}
+use Rattle.std.proofs.Common.{◌≡◌, ℕ, List, [], ◌++◌, map, None, Ok, sym, refl, ap, ◌∙◌, subst, append_assoc, append-nil}
 use Rattle.std.proofs.lemmas.List.{map-append}
 use Rattle.frames.specs.Streams.{Split}
 use Rattle.frames.specs.Laws.{then_split}
 use Rattle.frames.specs.Hex.{lines, next_line}
-use Rattle.frames.proofs.Frames.{frames-split, frames-none}
+use Rattle.frames.proofs.Frames.{frames-split}
 use Rattle.frames.proofs.Lines.{lines_split}
 use Rattle.switch.specs.Respond.{Status}
 use Rattle.serve.specs.declared.form.Form.{Form}
 use Rattle.serve.specs.declared.form.Form.TheVariants.{Frames, Lines}
 use Rattle.serve.specs.Form.{spelled, cut, ending, whole_words}
 use Rattle.serve.specs.Served.{Served, word_of}
+use Rattle.serve.specs.Serving.{Serving, ServesUpTo, Takes}
 use Rattle.serve.proofs.Turns.{served-none, served-append}
-use Rattle.serve.proofs.Loops.{line_end}
+use Rattle.serve.proofs.Loops.{cut-none}
 
 -- whole words are cut by pieces as they come
 pub cut_pieces : (form : Form) (bytes more : List ℕ) → cut form (bytes ++ more) ≡ then_split (cut form bytes) (cut form ((cut form bytes).1 ++ more))
@@ -27,67 +27,61 @@ unfolding next_line
 next_nothing = refl
 
 pub cut_nothing : (form : Form) → cut form [] ≡ ([], [])
-cut_nothing Frames = frames-none [] refl
-cut_nothing Lines = line_end [] next_nothing
+cut_nothing Frames = cut-none Frames [] refl
+cut_nothing Lines = cut-none Lines [] next_nothing
 
 -- what came so far is served, and what begins no whole word is pending
-pub record Fed {S : Type 0} (shows : S → Status → Type 0) (form : Form) (input rest pending : List ℕ) (was is : S) (out written : List ℕ) : Type 0 where
+pub record Fed {S : Type 0} (shows : S → Status → Type 0) (input rest pending : List ℕ) (was is : Serving S) : Type 0 where
   pub front : List ℕ
   pub parts : input ≡ front ++ rest
-  pub kept : pending ≡ (cut form front).1
-  pub served : Served shows (spelled form) (cut form front).0 was is out written
+  pub kept : pending ≡ (cut was.form front).1
+  pub form : is.form ≡ was.form
+  pub served : Served shows (spelled was.form) (cut was.form front).0 was.switch is.switch was.answers is.answers
 
-module _ {S : Type 0} (shows : S → Status → Type 0) (form : Form) (input : List ℕ) (was : S) (out : List ℕ) where
-  pub fed_none : Fed shows form input input [] was was out out
+module _ {S : Type 0} (shows : S → Status → Type 0) (input : List ℕ) (was : Serving S) where
+  pub fed_none : Fed shows input input [] was was
   fed_none =
       record {
         front = [];
         parts = refl;
-        kept = sym (ap (λ (s : Split). s.1) (cut_nothing form));
-        served = subst (λ ws. Served shows (spelled form) ws was was out out) (sym (ap (λ (s : Split). s.0) (cut_nothing form))) (served-none shows (spelled form) was out);
+        kept = sym (ap (λ (s : Split). s.1) (cut_nothing was.form));
+        form = refl;
+        served = subst (λ ws. Served shows (spelled was.form) ws was.switch was.switch was.answers was.answers) (sym (ap (λ (s : Split). s.0) (cut_nothing was.form))) (served-none shows (spelled was.form) was.switch was.answers);
       }
 
-  module _ (rest pending : List ℕ) (is : S) (written : List ℕ) (f : Fed shows form input rest pending was is out written) where
-    pub fed_shown : ((st : Status) × shows was st) → (st : Status) × shows is st
-    fed_shown p = (_, f.served.shown p.0 p.1)
-
+  module _ (rest pending : List ℕ) (is : Serving S) (f : Fed shows input rest pending was is) where
     pub fed-more :
-        (piece behind longer left : List ℕ) (then : S) (more : List ℕ) →
+        (piece behind left : List ℕ) (then : Serving S) →
         rest ≡ piece ++ behind →
-        longer ≡ pending ++ piece →
-        left ≡ (cut form longer).1 →
-        Served shows (spelled form) (cut form longer).0 is then written more → Fed shows form input behind left was then out more
-    fed-more piece behind longer left then more r l k s =
-        let long : longer ≡ (cut form f.front).1 ++ piece = l ∙ ap (λ z. z ++ piece) f.kept in
-        let split : cut form (f.front ++ piece) ≡ then_split (cut form f.front) (cut form longer) =
-        cut_pieces form f.front piece ∙ ap (λ z. then_split (cut form f.front) (cut form z)) (sym long) in
+        Takes {E = Unit {0}} (Ok tt) (λ was input r is. ServesUpTo r shows (cut was.form input) input was is) is then (pending ++ piece) left →
+        Fed shows input behind left was then
+    fed-more piece behind left then r t =
+        let s = t.1 in
+        let k : left ≡ (cut is.form (pending ++ piece)).1 = t.2 ∙ s.1.1.rest in
+        let split : cut was.form (f.front ++ piece) ≡ then_split (cut was.form f.front) (cut is.form (pending ++ piece)) =
+        cut_pieces was.form f.front piece
+        ∙ ap (λ z. then_split (cut was.form f.front) (cut was.form (z ++ piece))) (sym f.kept)
+        ∙ ap (λ (form : Form). then_split (cut was.form f.front) (cut form (pending ++ piece))) (sym f.form) in
         record {
           front = f.front ++ piece;
           parts = f.parts ∙ ap (λ z. f.front ++ z) r ∙ sym (append_assoc f.front piece behind);
           kept = k ∙ sym (ap (λ (z : Split). z.1) split);
-          served = subst (λ ws. Served shows (spelled form) ws was then out more) (sym (ap (λ (z : Split). z.0) split))
-              (served-append shows (spelled form) (cut form f.front).0 (cut form longer).0 was is then out written more f.served s);
+          form = s.0 ∙ f.form;
+          served = subst (λ ws. Served shows (spelled was.form) ws was.switch then.switch was.answers then.answers) (sym (ap (λ (z : Split). z.0) split))
+              (served-append shows (spelled was.form) (cut was.form f.front).0 (cut is.form (pending ++ piece)).0 was.switch is.switch then.switch was.answers is.answers then.answers f.served
+              (subst (λ (form : Form). Served shows (spelled form) (cut is.form (pending ++ piece)).0 is.switch then.switch is.answers then.answers) f.form s.1.0));
         }
 
     pub fed-all :
-        (then : S) (more : List ℕ) →
+        (then : Serving S) →
         rest ≡ [] →
-        Served shows (spelled form) (ending form pending) is then written more →
-        Served shows (spelled form) (whole_words form input) was then out more
-    fed-all then more e s =
+        (then.form ≡ is.form) × Served shows (spelled is.form) (ending is.form pending) is.switch then.switch is.answers then.answers →
+        Served shows (spelled was.form) (whole_words was.form input) was.switch then.switch was.answers then.answers
+    fed-all then e s =
         let whole : f.front ≡ input = sym (f.parts ∙ ap (λ z. f.front ++ z) e ∙ append-nil f.front) in
-        subst (λ z. Served shows (spelled form) (whole_words form z) was then out more) whole
-        (served-append shows (spelled form) (cut form f.front).0 (ending form (cut form f.front).1) was is then out written more f.served
-        (subst (λ z. Served shows (spelled form) (ending form z) is then written more) f.kept s))
-
--- a slice was added to the end
-pub grown :
-    {E : Type 0} (was slice longer : List ℕ) (x : Unit {0}) (r : Result (Unit {0}) E) →
-    r ≡ Ok x → longer ≡ cond (is_ok r) (was ++ slice) was → longer ≡ was ++ slice
-grown was slice longer x (Ok y) e i = i
-grown was slice longer x (Err y) e i = absurd (grind arith)
-
--- a slice that tests as empty is
-pub empty_is : (l : List ℕ) (empty : Bool) → empty ≡ eqb (length l) 0 → empty ≡ true → l ≡ []
-empty_is [] empty e t = refl
-empty_is (b ∷ bs) empty e t = let h = eqb-true (length (b ∷ bs)) 0 (sym e ∙ t) in absurd (omega arith)
+        let end : ending is.form pending ≡ ending was.form (cut was.form f.front).1 =
+        ap (λ (form : Form). ending form pending) f.form ∙ ap (ending was.form) f.kept in
+        subst (λ z. Served shows (spelled was.form) (whole_words was.form z) was.switch then.switch was.answers then.answers) whole
+        (served-append shows (spelled was.form) (cut was.form f.front).0 (ending was.form (cut was.form f.front).1) was.switch is.switch then.switch was.answers is.answers then.answers f.served
+        (subst (λ ws. Served shows (spelled was.form) ws is.switch then.switch is.answers then.answers) end
+        (subst (λ (form : Form). Served shows (spelled form) (ending is.form pending) is.switch then.switch is.answers then.answers) f.form s.1)))

@@ -1,12 +1,13 @@
 -- A word served, and words served one after the other.
-use Rattle.std.proofs.Common.{◌≡◌, ℕ, ◌-◌, ◌≤◌, Bool, true, false, cond, eqb, List, [], ◌∷◌, ◌++◌, length, take, drop, is_ok, IfOk, Ok, Err, Result, sym, refl, ap, ◌∙◌, subst, append_assoc, append-nil, arith, MatchResult}
-use native.Mathlib.Nat.{sub-zero}
+use Rattle.std.proofs.Common.{◌≡◌, ℕ, ◌≤◌, cond, List, [], ◌∷◌, ◌++◌, length, take, is_ok, Ok, Err, Result, sym, refl, ap, ◌∙◌, subst, append_assoc, append-nil, arith, MatchResult}
 use Rattle.std.specs.List.{flat_map}
-use Rattle.std.proofs.lemmas.List.{length-append, length-take, take-append-le, take_rest}
-use Rattle.std.proofs.lemmas.Bool.{eqb-true}
+use Rattle.std.proofs.lemmas.List.{length-append, length-take, take-append-le}
 use Rattle.switch.specs.Respond.{Status, respond}
 use Rattle.switch.specs.Promise.{Answers}
-use Rattle.serve.specs.Served.{after, given, Served, Stopped, cut_frame, last_line, word_of}
+use Rattle.serve.specs.declared.form.Form.{Form}
+use Rattle.serve.specs.Form.{spelled}
+use Rattle.serve.specs.Served.{after, given, Served, Stopped}
+use Rattle.serve.specs.Serving.{Serving, Serves}
 use Rattle.serve.proofs.Words.{after-append, after_none, after_one, answers_none, answers_one, written-append}
 
 -- what an answer that is there, or is not, adds
@@ -139,70 +140,22 @@ module _ {S : Type 0} (shows : S → Status → Type 0) (spell : List ℕ → Li
     pub wrote_one :
         {E : Type 0} (result : Result (Unit {0}) E) (written : List ℕ) →
         (r ≡ 0 → ⊥) →
-        written ≡ cond (is_ok result) (out ++ spell (take (r - 0) buffer)) out →
+        written ≡ cond (is_ok result) (out ++ spell (take r buffer)) out →
         MatchResult result (λ _. Served shows spell (w ∷ []) was is out written) (λ _. Stopped shows spell (w ∷ []) was is out written)
-    wrote_one (Ok x) written ne e = served-one ne written (e ∙ ap (λ k. out ++ spell (take k buffer)) (sub-zero r))
+    wrote_one (Ok x) written ne e = served-one ne written e
     wrote_one (Err x) written ne e = stopped_one written e
 
--- what the end of a stream adds, where nothing is left over and where something is
-pub cut-none : (left : List ℕ) (empty : Bool) → empty ≡ eqb (length left) 0 → empty ≡ true → cut_frame left ≡ []
-cut-none [] empty e t = refl
-cut-none (b ∷ bs) empty e t = let h = eqb-true (length (b ∷ bs)) 0 (sym e ∙ t) in absurd (omega arith)
-
-pub cut-some : (left : List ℕ) (empty : Bool) → empty ≡ eqb (length left) 0 → empty ≡ false → cut_frame left ≡ [] ∷ []
-cut-some [] empty e f = let z : true ≡ false = sym e ∙ f in absurd (grind arith)
-cut-some (b ∷ bs) empty e f = refl
-
-pub line_none : (left : List ℕ) (empty : Bool) → empty ≡ eqb (length left) 0 → empty ≡ true → last_line left ≡ []
-line_none [] empty e t = refl
-line_none (b ∷ bs) empty e t = let h = eqb-true (length (b ∷ bs)) 0 (sym e ∙ t) in absurd (omega arith)
-
-pub line-some :
-    (left : List ℕ) (empty : Bool) → empty ≡ eqb (length left) 0 → empty ≡ false → last_line left ≡ word_of left ∷ []
-line-some [] empty e f = let z : true ≡ false = sym e ∙ f in absurd (grind arith)
-line-some (b ∷ bs) empty e f = refl
-
--- the word that was read from a line
-pub word_read :
-    {E : Type 0} (line word slice : List ℕ) (x : Bool) (r : Result Bool E) →
-    r ≡ Ok x → word ≡ cond (is_ok r) (word_of line) [] → slice ≡ word → slice ≡ word_of line
-word_read line word slice x (Ok y) e items s = s ∙ items
-word_read line word slice x (Err y) e items s = absurd (grind arith)
-
--- all was served, though memory gave out behind it
-pub served-stopped :
-    {S : Type 0} (shows : S → Status → Type 0) (spell : List ℕ → List ℕ) (ws : List (List ℕ)) (a b : S) (out written : List ℕ) →
-    Served shows spell ws a b out written → Stopped shows spell ws a b out written
-served-stopped shows spell ws a b out written s =
-    record {
-      told = ws;
-      untold = [];
-      more = 0;
-      parts = sym (append-nil ws);
-      few = omega arith;
-      there = omega arith;
-      shown = λ st h. subst (λ z. shows b (after st z)) (sym (append-nil ws)) (s.shown st h);
-      answers = s.answers;
-    }
-
--- what is kept after the used bytes, or not where memory gave out
-pub served-kept :
-    {S : Type 0} {E : Type 0} (shows : S → Status → Type 0) (spell : List ℕ → List ℕ) (ws : List (List ℕ)) (a b : S)
-    (out written input left kept : List ℕ) (used : ℕ) (r : Result (Unit {0}) E) →
-    Served shows spell ws a b out written →
-    drop used input ≡ left →
-    IfOk r (λ _. kept ≡ drop used input) →
-    MatchResult r (λ _. Served shows spell ws a b out written × (kept ≡ left)) (λ _. Stopped shows spell ws a b out written)
-served-kept shows spell ws a b out written input left kept used (Ok x) s e k = (s, k ∙ e)
-served-kept shows spell ws a b out written input left kept used (Err x) s e k = served-stopped shows spell ws a b out written s
-
--- the bytes behind the used ones, as they were copied
-pub copied-rest :
-    {E : Type 0} (was slice cleared copied : List ℕ) (used : ℕ) (x : Unit {0}) (r : Result (Unit {0}) E) →
-    r ≡ Ok x →
-    slice ≡ was →
-    cleared ≡ [] →
-    copied ≡ cond (is_ok r) (cleared ++ take (length slice - used) (drop used slice)) cleared → copied ≡ drop used was
-copied-rest was slice cleared copied used x (Ok y) e s n i =
-    i ∙ ap (λ z. z ++ take (length slice - used) (drop used slice)) n ∙ take_rest slice used ∙ ap (drop used) s
-copied-rest was slice cleared copied used x (Err y) e s n i = absurd (grind arith)
+-- one server's words behind another's, in the form that stays
+module _ {S : Type 0} (shows : S → Status → Type 0) (was between is : Serving S) (ws vs : List (List ℕ)) (s : (between.form ≡ was.form) × Served shows (spelled was.form) ws was.switch between.switch was.answers between.answers) where
+  pub serves-append :
+      {E : Type 0} (r : Result (Unit {0}) E) → Serves r shows vs between is → Serves r shows (ws ++ vs) was is
+  serves-append (Ok x) t = (
+    t.0 ∙ s.0,
+    served-append shows (spelled was.form) ws vs was.switch between.switch is.switch was.answers between.answers is.answers s.1
+        (subst (λ (f : Form). Served shows (spelled f) vs between.switch is.switch between.answers is.answers) s.0 t.1),
+  )
+  serves-append (Err x) t = (
+    t.0 ∙ s.0,
+    stopped-behind shows (spelled was.form) ws vs was.switch between.switch is.switch was.answers between.answers is.answers s.1
+        (subst (λ (f : Form). Stopped shows (spelled f) vs between.switch is.switch between.answers is.answers) s.0 t.1),
+  )

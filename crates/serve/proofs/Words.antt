@@ -1,14 +1,9 @@
 -- The status after words and their answers: laws of one word, and of words behind others.
 use Rattle.std.proofs.Common.{◌≡◌, ℕ, List, [], ◌∷◌, ◌++◌, sym, refl, ap, ◌∙◌, append_assoc, append-nil}
 use Rattle.std.specs.List.{flat_map}
+use Rattle.std.proofs.lemmas.Grind.{flat_map-append}
 use Rattle.switch.specs.Respond.{Status, respond}
 use Rattle.serve.specs.Served.{after, given, answers_to}
-
-pub joined-append :
-    (spell : List ℕ → List ℕ) (ws vs : List (List ℕ)) → flat_map spell (ws ++ vs) ≡ flat_map spell ws ++ flat_map spell vs
-joined-append spell [] vs = refl
-joined-append spell (w ∷ ws) vs =
-    ap (λ z. spell w ++ z) (joined-append spell ws vs) ∙ sym (append_assoc (spell w) (flat_map spell ws) (flat_map spell vs))
 
 -- words behind others begin at the status after those
 pub after-append : (st : Status) (ws vs : List (List ℕ)) → after st (ws ++ vs) ≡ after (after st ws) vs
@@ -50,4 +45,4 @@ written-append spell st ws vs out between written e f =
     f ∙ ap (λ z. z ++ flat_map spell (answers_to (after st ws) vs)) e
     ∙ append_assoc out (flat_map spell (answers_to st ws)) (flat_map spell (answers_to (after st ws) vs))
     ∙ ap (λ z. out ++ z)
-    (sym (joined-append spell (answers_to st ws) (answers_to (after st ws) vs)) ∙ ap (flat_map spell) (sym (answers-append st ws vs)))
+    (sym (flat_map-append spell (answers_to st ws) (answers_to (after st ws) vs)) ∙ ap (flat_map spell) (sym (answers-append st ws vs)))

@@ -1,3 +1,4 @@
 pub mod Served
 pub mod Form
+pub mod Serving
 pub mod Laws

@@ -3,10 +3,12 @@
 
 mod form;
 mod laws;
+mod server;
 mod stream;
 mod whole;
 
-pub use form::{Form, answers_by_pieces, serve_end, serve_pending};
+pub use form::Form;
 pub use laws::served_in_turn;
-pub use stream::{end, end_lines, serve, serve_lines, serve_whole};
-pub use whole::{ServeError, answers, answers_of, zeros};
+pub use server::Server;
+pub use stream::{Service, Stream, answers_by_pieces};
+pub use whole::{ServeError, answers, answers_of};

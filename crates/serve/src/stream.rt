@@ -1,131 +1,96 @@
-// The loops that take words from a stream and write their answers.
-ghost use Rattle.std.specs.Prelude.{◌≡◌, ℕ, List, [], ◌∷◌, MatchResult};
-ghost use Rattle.frames.specs.Frames.{framed, frames};
-ghost use Rattle.frames.specs.Hex.{hex_line};
-ghost use Rattle.switch.specs.Respond.{Status};
-ghost use Rattle.serve.specs.Served.{Served, Stopped, Ended, Used, line_words, cut_frame, last_line, stream_words};
+// A stream that comes by pieces.
+ghost use Rattle.std.specs.Prelude.{◌≡◌, ℕ, ◌<◌, ◌≤◌, List, [], ◌++◌, length, Result, IfOk};
+ghost use Rattle.std.specs.List.{flat_map};
+ghost use Rattle.std.specs.declared.alloc.AllocError.{AllocError};
+ghost use Rattle.switch.specs.Respond.Status.{Unset};
+ghost use Rattle.serve.specs.Served.{answers_to};
+ghost use Rattle.serve.specs.Form.{spelled, whole_words};
+ghost use Rattle.serve.specs.Serving.{Takes};
 
-use frames::frame::{next_frame, push_frame};
-use frames::hex::{next_line, push_hex_line, read_hex};
-use std::alloc::AllocError;
+use crate::form::Form;
+use crate::server::Server;
+use std::alloc::{AllocError, Global};
 use switch::Switch;
 
-// Answers a word, and adds the frame of the answer to `out`.
-fn serve_word<S: Switch>(
-    switch: &mut S,
-    word: &[u8],
-    buffer: &mut [u8; 2241],
-    out: &mut Vec<u8>,
-) -> Result<(), AllocError>
-    requires { (st : Status) × S.Switch.shows switch.old st }
-    ensures { Ended result S.Switch.shows framed (word.now ∷ []) switch.old switch.new out.old.items out.new.items }
-{
-    let size = switch.answer(word, buffer);
-    if size == 0 {
-        return Ok(());
-    }
-    push_frame(out, &buffer[0..size])
+// What serves the words of a stream, and writes something of them.
+pub trait Service {
+    // an input was served, up to where a number of bytes is used, or where memory gave out
+    ghost serves: { Self → List ℕ → Result ℕ AllocError → Self → Type 0 };
+
+    // what the end of a stream left over was served, or memory gave out
+    ghost ends: { Self → List ℕ → Result (Unit {0}) AllocError → Self → Type 0 };
+
+    // what was written
+    ghost writes: { Self → List ℕ };
+
+    // the same with nothing written
+    ghost cleared: { Self → Self };
+
+    // Serves all whole words at the start of the input; gives how many bytes they take.
+    fn serve(&mut self, input: &[u8]) -> Result<usize, AllocError>
+        ensures serves { serves self.old input.now result self.new }
+        ensures within { IfOk result (λ used. used ≤ length input.now) };
+
+    // Serves what the end of the stream leaves over.
+    fn end(&mut self, left: &[u8]) -> Result<(), AllocError>
+        ensures { ends self.old left.now result self.new };
+
+    // What was written since it was last let go of.
+    fn output(&self) -> &[u8]
+        ensures { result.now ≡ writes self.now };
+
+    // Lets go of what was written.
+    fn clear(&mut self)
+        ensures cleared { self.new ≡ cleared self.old }
+        ensures empty { writes self.new ≡ [] };
 }
 
-// Answers a word, and adds the line of the answer to `out`.
-fn serve_line<S: Switch>(
-    switch: &mut S,
-    word: &[u8],
-    buffer: &mut [u8; 2241],
-    out: &mut Vec<u8>,
-) -> Result<(), AllocError>
-    requires { (st : Status) × S.Switch.shows switch.old st }
-    ensures { Ended result S.Switch.shows hex_line (word.now ∷ []) switch.old switch.new out.old.items out.new.items }
-{
-    let size = switch.answer(word, buffer);
-    if size == 0 {
-        return Ok(());
-    }
-    push_hex_line(out, &buffer[0..size])
+// What serves the words, and the bytes that begin no whole word yet.
+#[derive(Drop)]
+pub struct Stream<S> {
+    pub service: S,
+    pub pending: Vec<u8>,
 }
 
-// Serves all whole frames at the start of the input; gives how many bytes they take.
-pub fn serve<S: Switch>(
+impl<S: Service> Stream<S> {
+    // Serves all whole words at the start of what is pending with a piece behind it, and keeps the
+    // rest.
+    pub fn take(&mut self, piece: &[u8]) -> Result<(), AllocError>
+        ensures { Takes result S.serves self.old.service self.new.service (self.old.pending.items ++ piece.now) self.new.pending.items }
+    {
+        self.pending.extend_from_slice(piece)?;
+        let used = self.service.serve(&self.pending)?;
+        self.pending.drain(..used);
+        Ok(())
+    }
+
+    // Serves what the end of the stream leaves over.
+    pub fn end(&mut self) -> Result<(), AllocError>
+        ensures { S.ends self.old.service self.old.pending.items result self.new.service }
+    {
+        self.service.end(&self.pending)
+    }
+}
+
+// The answers of a switch that is not set yet to a whole stream that comes by pieces of some size.
+pub fn answers_by_pieces<S: Switch>(
     switch: &mut S,
+    heap: Global,
+    form: Form,
     input: &[u8],
-    buffer: &mut [u8; 2241],
-    out: &mut Vec<u8>,
-) -> Result<usize, AllocError>
-    requires { (st : Status) × S.Switch.shows switch.old st }
-    ensures { MatchResult result (λ used. Served S.Switch.shows framed (frames input.now).0 switch.old switch.new out.old.items out.new.items × Used used input.now (frames input.now).1) (λ _. Stopped S.Switch.shows framed (frames input.now).0 switch.old switch.new out.old.items out.new.items) }
+    size: usize,
+) -> Result<Vec<u8>, AllocError>
+    requires unset { S.Switch.shows switch.old Unset }
+    requires some { 0 < size }
+    ensures { IfOk result (λ v. v.items ≡ flat_map (spelled form) (answers_to Unset (whole_words form input.now))) }
 {
-    let mut rest = input;
-    while let Some(frame) = next_frame(rest) {
-        serve_word(switch, frame.word, buffer, out)?;
-        rest = frame.rest;
+    let mut stream = Stream {
+        service: Server::new(switch, form, heap),
+        pending: Vec::new(heap),
+    };
+    for piece in input.chunks(size) {
+        stream.take(piece)?;
     }
-    Ok(input.len() - rest.len())
-}
-
-// Serves all whole lines at the start of the input; gives how many bytes they take.
-pub fn serve_lines<S: Switch>(
-    switch: &mut S,
-    input: &[u8],
-    word: &mut Vec<u8>,
-    buffer: &mut [u8; 2241],
-    out: &mut Vec<u8>,
-) -> Result<usize, AllocError>
-    requires { (st : Status) × S.Switch.shows switch.old st }
-    ensures { MatchResult result (λ used. Served S.Switch.shows hex_line (line_words input.now).0 switch.old switch.new out.old.items out.new.items × Used used input.now (line_words input.now).1) (λ _. Stopped S.Switch.shows hex_line (line_words input.now).0 switch.old switch.new out.old.items out.new.items) }
-{
-    let mut rest = input;
-    while let Some(line) = next_line(rest) {
-        let _spells = read_hex(line.text, word)?;
-        serve_line(switch, word, buffer, out)?;
-        rest = line.rest;
-    }
-    Ok(input.len() - rest.len())
-}
-
-// Serves what the end of a stream of frames leaves over: a frame that is cut counts as the empty word.
-pub fn end<S: Switch>(
-    switch: &mut S,
-    left: &[u8],
-    buffer: &mut [u8; 2241],
-    out: &mut Vec<u8>,
-) -> Result<(), AllocError>
-    requires { (st : Status) × S.Switch.shows switch.old st }
-    ensures { Ended result S.Switch.shows framed (cut_frame left.now) switch.old switch.new out.old.items out.new.items }
-{
-    if left.is_empty() {
-        return Ok(());
-    }
-    serve_word(switch, &left[0..0], buffer, out)
-}
-
-// Serves what the end of a stream of lines leaves over: a last line without its line feed.
-pub fn end_lines<S: Switch>(
-    switch: &mut S,
-    left: &[u8],
-    word: &mut Vec<u8>,
-    buffer: &mut [u8; 2241],
-    out: &mut Vec<u8>,
-) -> Result<(), AllocError>
-    requires { (st : Status) × S.Switch.shows switch.old st }
-    ensures { Ended result S.Switch.shows hex_line (last_line left.now) switch.old switch.new out.old.items out.new.items }
-{
-    if left.is_empty() {
-        return Ok(());
-    }
-    let _spells = read_hex(left, word)?;
-    serve_line(switch, word, buffer, out)
-}
-
-// Serves a whole stream of frames, with what its end leaves over.
-pub fn serve_whole<S: Switch>(
-    switch: &mut S,
-    input: &[u8],
-    buffer: &mut [u8; 2241],
-    out: &mut Vec<u8>,
-) -> Result<(), AllocError>
-    requires { (st : Status) × S.Switch.shows switch.old st }
-    ensures { Ended result S.Switch.shows framed (stream_words input.now) switch.old switch.new out.old.items out.new.items }
-{
-    let used = serve(switch, input, buffer, out)?;
-    end(switch, &input[used..], buffer, out)
+    stream.end()?;
+    Ok(stream.service.into_answers())
 }

@@ -3,7 +3,4 @@ use Rattle.frames.proofs.Digits.{length-hex_line}
 use Rattle.frames.proofs.hex.line_size.Goals as goal
 
 pub returns : goal.returns
-returns c =
-    let long = length-hex_line c.args.word.now in
-    let twice = c.in_ok-checked_mul.ensures.1 in
-    grind arith
+returns c = grind (arith, length-hex_line c.args.word.now)

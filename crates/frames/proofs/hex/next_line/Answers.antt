@@ -1,19 +1,24 @@
-use Rattle.std.proofs.Common.{◌+◌, rules}
+use Rattle.std.proofs.Common.{◌≡◌, ◌<◌, length, MatchOption, rules, arith}
+use Rattle.std.specs.List.{AllWithin, HoldsAt}
 use Rattle.std.proofs.lemmas.List.{take_rest}
-use Rattle.frames.proofs.Lines.{passed-more, passed-found, passed_all, shrinks}
+use borrow.Author.Tests.{tests}
+use Rattle.std.proofs.lemmas.Iterator.{IsFirst-from_position, YieldsList-from_slice}
+use Rattle.frames.specs.Hex.{line_feed}
+use Rattle.frames.proofs.Lines.{line_at}
 use Rattle.frames.proofs.hex.next_line.Goals as goal
+use Rattle.frames.proofs.hex.next_line.Goals.{After-position}
 
-pub returns-then-c-eq-LINE_FEED : goal.returns-then-c-eq-LINE_FEED
-returns-then-c-eq-LINE_FEED c =
-    let bytes = c.args.bytes.now in
-    let i = c.loop-i.i in
-    let found = passed-found bytes i (search rules) (search rules) c.loop-i.invariant in
-    let rest = take_rest bytes (i + 1) in
-    record { value = search (rules, found, rest); shorter = search (rules, shrinks bytes _ found) }
+-- the first line feed, as the search found it
+first :
+    (c : After-position) →
+    MatchOption c.position.result (AllWithin (λ x. x ≡ line_feed → ⊥) c.args.bytes.now 0 (length c.args.bytes.now)) (λ i. (i < length c.args.bytes.now) × HoldsAt (λ x. x ≡ line_feed) c.args.bytes.now i × AllWithin (λ x. x ≡ line_feed → ⊥) c.args.bytes.now 0 i)
+first c =
+    IsFirst-from_position _ _ c.position.result (λ x. x ≡ line_feed) (λ x. x ≡ line_feed → ⊥) c.position.ensures.ran
+    (YieldsList-from_slice c.args.bytes.now cc) (λ x q k. search (rules, tests)) (λ x q k. search (rules, tests))
 
-pub loop-i-preserved : goal.loop-i-preserved
-loop-i-preserved c = passed-more c.args.bytes.now c.loop-i.i (search rules) (search rules) c.loop-i.invariant
+pub returns-in_err-end-clause-value : goal.returns-in_err-end-clause-value
+returns-in_err-end-clause-value c =
+    let f = line_at _ _ (first (goal.at.returns-in_err-end-clause-value c).After-position) in grind arith
 
-pub returns : goal.returns
-returns c =
-    record { value = passed_all c.args.bytes.now c.loop-i.i (search rules) c.loop-i.invariant; shorter = tt }
+pub returns-clause-value : goal.returns-clause-value
+returns-clause-value c = let f = line_at _ _ (first (goal.at.returns-clause-value c).After-position) in grind (arith, take_rest)

@@ -1,0 +1,159 @@
+// A crowd that takes the words of a stream, and what is told of it.
+ghost use Rattle.std.specs.Prelude.{◌≡◌, ℕ, List, [], string_bytes};
+ghost use Rattle.crowd.specs.Crowd.{Status};
+ghost use Rattle.crowd.specs.State.{state, Shows};
+ghost use Rattle.switch.specs.Respond as respond;
+ghost use Rattle.switch.specs.Best as switch;
+
+use crate::tell::{
+    departures, lines_of, picks_of, tell_differs, tell_leaves, tell_over, tell_settings, tell_slot,
+    tell_waits,
+};
+use crossbox::Cell;
+use crowd::{Crowd, Due};
+use ideal::IdealBox;
+use serve::{Form, Service};
+use std::alloc::{AllocError, Global};
+use std::fmt::Write;
+use std::marker::Model;
+use switch::Switch;
+use words::{Answer, Kind, REFUSAL};
+
+// A crowd, the ideal box on the same slots, and the text of what happens.
+#[derive(Drop)]
+pub struct Telling<'b, 'c, 'i> {
+    crowd: &'b mut Crowd<'c>,
+    ideal: &'b mut IdealBox<'i>,
+    form: Form,
+    scratch: Vec<u8>,
+    real: Answer,
+    other: Answer,
+    text: String,
+}
+
+impl<'b, 'c, 'i> Model for Telling<'b, 'c, 'i> {
+    ghost Value = { List ℕ };
+
+    ghost view = { λ t. string_bytes t.text };
+
+    ghost invariant = { λ t. ((st : Status) × Shows (state t.crowd.now) st) × ((st : respond.Status) × switch.Shows t.ideal.now st) };
+}
+
+impl<'b, 'c, 'i> Telling<'b, 'c, 'i> {
+    // Two boxes of which nothing was told yet.
+    pub fn new(
+        crowd: &'b mut Crowd<'c>,
+        ideal: &'b mut IdealBox<'i>,
+        form: Form,
+        heap: Global,
+    ) -> Telling<'b, 'c, 'i>
+        requires crowd { (st : Status) × Shows (state crowd.old) st }
+        requires ideal { (st : respond.Status) × switch.Shows ideal.old st }
+        ensures { result ≡ [] }
+    {
+        Telling {
+            crowd,
+            ideal,
+            form,
+            scratch: Vec::new(heap),
+            real: Answer::new(),
+            other: Answer::new(),
+            text: String::new(heap),
+        }
+    }
+
+    // A first choice that was taken, with the answers of the crowd and of the ideal box.
+    fn tell_first(&mut self, picks: &[Option<Cell>; 32]) -> Result<(), AllocError> {
+        let lines = lines_of(self.crowd);
+        let text = &mut self.text;
+        writeln!(text, "choice 1")?;
+        tell_over(picks, text)?;
+        tell_leaves(lines, departures(&self.real), text)?;
+        tell_differs(lines, departures(&self.real), departures(&self.other), text)
+    }
+
+    // A second choice that was taken.
+    fn tell_second(&mut self, picks: &[Option<Cell>; 32]) -> Result<(), AllocError> {
+        writeln!(self.text, "choice 2")?;
+        tell_over(picks, &mut self.text)?;
+        tell_waits(self.crowd, &mut self.text)
+    }
+
+    // Takes a word, as it is written, the ideal box too unless it is a choice, and adds what
+    // happened to the text.
+    fn tell_word(&mut self, written: &[u8]) -> Result<(), AllocError> {
+        let word = self.form.read(written, &mut self.scratch)?;
+        let due = self.crowd.due();
+        let picks = picks_of(self.crowd, word);
+        self.crowd.answer(word, &mut self.real);
+        if let [REFUSAL, fault] = self.real.as_bytes() {
+            return writeln!(self.text, "refused {fault}");
+        }
+        match Kind::of(word) {
+            Kind::Settings => {
+                self.ideal.answer(word, &mut self.other);
+                tell_settings(self.crowd, &mut self.text)
+            }
+            Kind::Slot => {
+                self.ideal.answer(word, &mut self.other);
+                tell_slot(self.crowd, &mut self.text)
+            }
+            Kind::Choice => match due {
+                Due::First => self.tell_first(&picks),
+                _ => self.tell_second(&picks),
+            },
+            Kind::Unknown => Ok(()),
+        }
+    }
+
+    // Ends with both boxes as they are now.
+    pub fn into_boxes(self) -> (&'b mut Crowd<'c>, &'b mut IdealBox<'i>)
+        ensures crowd { (st : Status) × Shows (state result.0.now) st }
+        ensures ideal { (st : respond.Status) × switch.Shows result.1.now st }
+    {
+        let Telling { crowd, ideal, .. } = self;
+        (crowd, ideal)
+    }
+
+    // Ends with the text.
+    pub fn into_text(self) -> String
+        ensures { string_bytes result ≡ self.entry }
+    {
+        let Telling { text, .. } = self;
+        text
+    }
+}
+
+impl<'b, 'c, 'i> Service for Telling<'b, 'c, 'i> {
+    ghost serves = { λ _ _ _ _. Unit {0} };
+
+    ghost ends = { λ _ _ _ _. Unit {0} };
+
+    ghost writes = { λ t. t };
+
+    ghost cleared = { λ _. [] };
+
+    fn serve(&mut self, input: &[u8]) -> Result<usize, AllocError> {
+        let mut rest = input;
+        while let Some(taken) = self.form.next(rest) {
+            self.tell_word(taken.word)?;
+            rest = taken.rest;
+        }
+        Ok(input.len() - rest.len())
+    }
+
+    fn end(&mut self, left: &[u8]) -> Result<(), AllocError> {
+        match self.form.last(left) {
+            Some(written) => self.tell_word(written),
+            None => Ok(()),
+        }
+    }
+
+    fn output(&self) -> &[u8] {
+        self.text.as_bytes()
+    }
+
+    fn clear(&mut self) {
+        self.text.clear();
+    }
+}

@@ -1,0 +1,7 @@
+use Rattle.std.proofs.Common.{refl}
+use Rattle.serve.proofs.Turns.{served-none}
+use Rattle.serve.proofs.server.ServerService.end.Goals as goal
+
+pub returns-in-None : goal.returns-in-None
+returns-in-None g c =
+    rw (← c.self.view_is, c.in-None.ensures) (refl, served-none g.S.Switch.shows _ _ _)
