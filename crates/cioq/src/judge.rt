@@ -1,10 +1,10 @@
 // The test of a choice: the lowest of its faults, or none.
-ghost use Rattle.std.specs.Prelude.{◌≡◌, ℕ, ◌<◌, ◌≤◌, length, Some, None};
+ghost use Rattle.std.specs.Prelude.{◌≡◌, ℕ, ◌<◌, ◌≤◌};
 ghost use Rattle.std.specs.List.{AllByRecursion};
 ghost use Rattle.crossbox.specs.Promise.{Fits};
 ghost use Rattle.cioq.specs.State.{state, Good, Aimed};
 ghost use Rattle.cioq.specs.Spells.{cells, box_of};
-ghost use Rattle.cioq.specs.Choice.{choice_of, waits_in, all_wait, is_named, one_output, named, picks, gets_of, table_of, noted, beats, settled, all_settled, judge_choice, JudgedIsStable};
+ghost use Rattle.cioq.specs.Choice.{choice_of, waits_in, all_wait, one_output, named, picks, gets_of, table_of, settled, all_settled, judge_choice, JudgedIsStable};
 ghost use Rattle.cioq.specs.Named.{StableIsNamed};
 
 use crate::RealBox;

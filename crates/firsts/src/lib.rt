@@ -1,7 +1,7 @@
 // The table of the first waiting cell of each pair of an input and an output, kept up to date as lists change.
 #![tactic(auto)]
 
-ghost use Rattle.std.specs.Prelude.{◌≡◌, ℕ, ◌+◌, ◌*◌, ◌<◌, true, ◌&&◌, map, replicate, slice_index};
+ghost use Rattle.std.specs.Prelude.{◌≡◌, ◌+◌, ◌*◌, ◌<◌, true, ◌&&◌, map, slice_index};
 ghost use Rattle.bits.specs.Bits.{is_set};
 ghost use Rattle.firsts.specs.Firsts.{none, later, sooner, stands, noted, after_insert, after_remove};
 
