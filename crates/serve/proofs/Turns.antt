@@ -2,6 +2,7 @@
 use Rattle.std.proofs.Common.{◌≡◌, ℕ, ◌≤◌, cond, List, [], ◌∷◌, ◌++◌, length, take, is_ok, Ok, Err, Result, sym, refl, ap, ◌∙◌, subst, append_assoc, append-nil, arith, MatchResult}
 use Rattle.std.specs.List.{flat_map}
 use Rattle.std.proofs.lemmas.List.{length-append, length-take, take-append-le}
+use Rattle.words.specs.Writing.{Draft}
 use Rattle.switch.specs.Respond.{Status, respond}
 use Rattle.switch.specs.Promise.{Answers}
 use Rattle.serve.specs.declared.form.Form.{Form}
@@ -18,12 +19,6 @@ given-some spell (b ∷ bs) h = append-nil (spell (b ∷ bs))
 pub given-none : (spell : List ℕ → List ℕ) (a : List ℕ) → length a ≡ 0 → flat_map spell (given a) ≡ []
 given-none spell [] h = refl
 given-none spell (b ∷ bs) h = absurd (omega arith)
-
--- an answer is no longer than the buffer
-pub answer-fits :
-    (st : Status) (w before buffer : List ℕ) (r : ℕ) → Answers st w r before buffer → r ≤ length buffer
-answer-fits st w before buffer r a =
-    let l = ap length a.bytes in let t = length-take r buffer in omega (arith, a.size)
 
 module _ {S : Type 0} (shows : S → Status → Type 0) (spell : List ℕ → List ℕ) where
   pub served-none : (b : S) (out : List ℕ) → Served shows spell [] b b out out
@@ -97,13 +92,13 @@ module _ {S : Type 0} (shows : S → Status → Type 0) (spell : List ℕ → Li
 
   -- one word
   module _
-      (w before buffer out : List ℕ) (r : ℕ) (was is : S)
-      (answers : (st : Status) → shows was st → Answers st w r before buffer)
+      (w out : List ℕ) (before told : Draft) (was is : S)
+      (answers : (st : Status) → shows was st → Answers st w before told)
       (goes : (st : Status) → shows was st → shows is (respond st w).0) where
     shown-one : (st : Status) → shows was st → shows is (after st (w ∷ []))
     shown-one st h = subst (shows is) (sym (after_one st w)) (goes st h)
 
-    pub served_silent : r ≡ 0 → Served shows spell (w ∷ []) was is out out
+    pub served_silent : told.len ≡ 0 → Served shows spell (w ∷ []) was is out out
     served_silent e =
         record {
           shown = shown-one;
@@ -113,7 +108,7 @@ module _ {S : Type 0} (shows : S → Status → Type 0) (spell : List ℕ → Li
               ∙ ap (λ z. out ++ flat_map spell z) (sym (answers_one st w));
         }
 
-    pub served-one : (r ≡ 0 → ⊥) → (written : List ℕ) → written ≡ out ++ spell (take r buffer) → Served shows spell (w ∷ []) was is out written
+    pub served-one : (told.len ≡ 0 → ⊥) → (written : List ℕ) → written ≡ out ++ spell (take told.len told.bytes) → Served shows spell (w ∷ []) was is out written
     served-one ne written e =
         record {
           shown = shown-one;
@@ -139,8 +134,8 @@ module _ {S : Type 0} (shows : S → Status → Type 0) (spell : List ℕ → Li
     -- as the call that writes the answer says it
     pub wrote_one :
         {E : Type 0} (result : Result (Unit {0}) E) (written : List ℕ) →
-        (r ≡ 0 → ⊥) →
-        written ≡ cond (is_ok result) (out ++ spell (take r buffer)) out →
+        (told.len ≡ 0 → ⊥) →
+        written ≡ cond (is_ok result) (out ++ spell (take told.len told.bytes)) out →
         MatchResult result (λ _. Served shows spell (w ∷ []) was is out written) (λ _. Stopped shows spell (w ∷ []) was is out written)
     wrote_one (Ok x) written ne e = served-one ne written e
     wrote_one (Err x) written ne e = stopped_one written e

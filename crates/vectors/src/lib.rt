@@ -25,7 +25,7 @@ impl Vector {
     }
 
     // Whether what came is as expected; says where it is not.
-    pub fn judge<E: fmt::Display>(
+    pub fn judge<E: fmt::Display + Drop>(
         &self,
         rt: &HostRuntime,
         way: &str,
