@@ -133,6 +133,7 @@ impl<'b, 'c, 'i> Service for Telling<'b, 'c, 'i> {
 
     ghost cleared = { λ _. [] };
 
+    // The loop of `Server` again: one loop for both would say of any words taken in turn what each says of its own.
     fn serve(&mut self, input: &[u8]) -> Result<usize, AllocError> {
         let mut rest = input;
         while let Some(taken) = self.form.next(rest) {

@@ -119,12 +119,8 @@ fn digit_value(c: u8) -> Option<u8>
     ensures value { result ≡ digit_value c }
     ensures bound { IfSome result (λ v. v < digit_values) }
 {
-    match c {
-        b'0'..=b'9' => Some(c - b'0'),
-        b'a'..=b'f' => Some(c - b'a' + LETTER_VALUE),
-        b'A'..=b'F' => Some(c - b'A' + LETTER_VALUE),
-        _ => None,
-    }
+    let value = char::from(c).to_digit(u32::from(DIGIT_VALUES))?;
+    Some(value as u8)
 }
 
 // The digit of a value.
