@@ -27,7 +27,8 @@ raised counts o l f h p =
       | inr ne ↦ subst (λ (z : ℕ). z ≤ 256) (sym (get_or-set_other counts o p (get_or counts o 0 + 1) 0 ne)) (f p)
     ]
 
-with_good : (s : State) (i o : ℕ) (body : List ℕ) → Good s → i < s.lines → o < s.lines → count_of s o < 256 → Good (with_cell i o body s)
+-- a box with a cell more is good
+pub with_good : (s : State) (i o : ℕ) (body : List ℕ) → Good s → i < s.lines → o < s.lines → count_of s o < 256 → Good (with_cell i o body s)
 with_good s i o body g hi ho h =
     let few = g.few in
     let n = g.outputs in
