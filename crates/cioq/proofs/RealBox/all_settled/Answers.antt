@@ -12,7 +12,7 @@ use Rattle.cioq.proofs.RealBox.all_settled.Goals as goal
 pub all-requires-clause-callable : goal.all-requires-clause-callable
 all-requires-clause-callable c =
     let n = c.self.inside.lines in
-    let lines = ap (λ (z : State). z.lines) c.self.view_is in
+    let lines = ap (λ z. z.lines) c.self.view_is in
     serves_from_places {s = c.zip.result}
     (each_line n c.args.choice.now c.zip.result c.zip.ensures.first c.zip.ensures.second.0)
     (λ y q r. search (rules, tests))

@@ -1,6 +1,6 @@
 use Rattle.std.proofs.Common.{◌≡◌, ◌-◌, ◌<◌, sym, ap, ◌∙◌, subst, arith}
 use Rattle.words.specs.Lines.{Line, read_lines}
-use Rattle.cioq.specs.State.{State, Good}
+use Rattle.cioq.specs.State.{Good}
 use Rattle.cioq.specs.Arrivals.{slot_lines, away}
 use Rattle.cioq.proofs.Arrivals.{flags_none, flags_more, slot_read, slot_bring, admit-none, step_lines, step-slots, step_cut, step_brings, step_after, step-rest, step-away}
 use Rattle.cioq.proofs.RealBox.arrive.Goals as goal
@@ -18,7 +18,7 @@ pub returns-in_default : goal.returns-in_default
 returns-in_default c =
     let s = c.args.self.now in
     let g = subst Good c.self.view_is c.self.invariant in
-    let h : c.loop-input.input < s.lines = omega (arith, c.loop-input-test.true, ap (λ (z : State). z.lines) c.self.view_is) in
+    let h : c.loop-input.input < s.lines = omega (arith, c.loop-input-test.true, ap (λ z. z.lines) c.self.view_is) in
     absurd (step_cut (slot_lines s.lines c.args.bytes.now) s c.loop-input.self c.loop-input.input c.loop-input.rest.now g (slot_bring s.lines c.args.bytes.now c.requires.read) h c.loop-input.invariant.0 c.loop-input.invariant.1 c.in_default.ensures)
 
 pub admit-requires : goal.admit-requires
@@ -28,7 +28,7 @@ admit-requires c =
     let t = c.loop-input.self in
     let i = c.loop-input.invariant in
     let g = subst Good c.self.view_is c.self.invariant in
-    let h : c.loop-input.input < s.lines = omega (arith, c.loop-input-test.true, ap (λ (z : State). z.lines) c.self.view_is) in
+    let h : c.loop-input.input < s.lines = omega (arith, c.loop-input-test.true, ap (λ z. z.lines) c.self.view_is) in
     let b = slot_bring s.lines c.args.bytes.now c.requires.read in
     let n = step_lines ls s t c.loop-input.input c.loop-input.rest.now g b h i.0 i.1 in
     let k = step-slots ls s t c.loop-input.input c.loop-input.rest.now g b h i.0 i.1 in
@@ -45,7 +45,7 @@ loop-input-preserved c =
     let t = c.loop-input.self in
     let i = c.loop-input.invariant in
     let g = subst Good c.self.view_is c.self.invariant in
-    let h : c.loop-input.input < s.lines = omega (arith, c.loop-input-test.true, ap (λ (z : State). z.lines) c.self.view_is) in
+    let h : c.loop-input.input < s.lines = omega (arith, c.loop-input-test.true, ap (λ z. z.lines) c.self.view_is) in
     let b = slot_bring s.lines c.args.bytes.now c.requires.read in
     let few : c.loop-input.input < 32 = omega (arith, g.few, h) in
     let line : Line = record { arrival = c.in-Some.entry.arrival; body = c.in-Some.entry.body.now } in (

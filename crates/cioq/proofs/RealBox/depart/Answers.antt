@@ -8,20 +8,20 @@ loop-output-init c =
     let s = c.args.self.now in
     (sym (depart-none s), start_written s c.args.answer.now, omega arith)
 
-pub depart_one-requires : goal.depart_one-requires
-depart_one-requires c =
+pub depart_one-requires-clause-there : goal.depart_one-requires-clause-there
+depart_one-requires-clause-there c =
     let s = c.args.self.now in
-    let g = subst Good c.self.view_is c.self.invariant in
     let k = c.loop-output.output in
-    let e = c.loop-output.invariant.0 in
-    let l = ap (λ (z : State). z.lines) c.self.view_is in
-    let le : k ≤ s.lines = omega (arith, c.loop-output-test.true) in
-    let n = ap (λ (z : State). z.lines) e ∙ departed-lines k s in
-    record {
-      there = omega (arith, n, c.loop-output-test.true);
-      room = omega (arith, c.requires.room, c.loop-output.invariant.2, c.loop-output-test.true);
-      counted = subst Counted (sym e) (departed_counted k s g c.requires.counted le);
-    }
+    let n = ap (λ (z : State). z.lines) c.loop-output.invariant.0 ∙ departed-lines k s in
+    omega (arith, n, c.loop-output-test.true, ap (λ z. z.lines) c.self.view_is)
+
+pub depart_one-requires-clause-counted : goal.depart_one-requires-clause-counted
+depart_one-requires-clause-counted c =
+    let s = c.args.self.now in
+    let k = c.loop-output.output in
+    let g = subst Good c.self.view_is c.self.invariant in
+    let le : k ≤ s.lines = omega (arith, c.loop-output-test.true, ap (λ z. z.lines) c.self.view_is) in
+    subst Counted (sym c.loop-output.invariant.0) (departed_counted k s g c.requires.counted le)
 
 pub loop-output-preserved : goal.loop-output-preserved
 loop-output-preserved c =

@@ -3,7 +3,6 @@ use Rattle.std.proofs.lemmas.List.{length-append}
 use Rattle.crossbox.specs.declared.Arrival.TheVariants.{Nothing}
 use Rattle.crossbox.specs.declared.Arrival.{Arrival}
 use Rattle.crossbox.specs.declared.Cell.{Cell}
-use Rattle.cioq.specs.State.{State}
 use Rattle.cioq.specs.Spells.{box_of}
 use Rattle.cioq.specs.Choice.{choice_of, named, noted}
 use Rattle.crossbox.proofs.Lines.{line_turn}
@@ -16,7 +15,7 @@ loop-input-init c = table_none (choice_of c.args.choice.now) (box_of c.args.self
 pub named_at-requires : goal.named_at-requires
 named_at-requires c =
     let a = line_turn c.self.inside.lines c.args.choice.now c.zip-input-items.result c.zip-input-items.ensures.first c.zip-input-items.ensures.second.0 (omega (arith, c.self.invariant.few, c.told-choice)) c.into_iter-input-iterator.result c.into_iter-input-iterator.ensures.into_iter_gives c.loop-input.yielded c.loop-input.input-iterator c.next.new.self c.next.result c.loop-input.yielded_by c.next.ensures.steps (c.in-Some.input, c.in-Some.field-0-1) c.in-Some.is Nothing in
-    record { there = omega (arith, a.0, a.1.0, ap (λ (z : State). z.lines) c.self.view_is) }
+    record { there = omega (arith, a.0, a.1.0, ap (λ z. z.lines) c.self.view_is) }
 
 pub bounds-gets-cell : goal.bounds-gets-cell
 bounds-gets-cell c =
@@ -26,8 +25,8 @@ bounds-gets-cell c =
     let k = length c.loop-input.yielded in
     let a = line_turn c.self.inside.lines c.args.choice.now c.zip-input-items.result c.zip-input-items.ensures.first c.zip-input-items.ensures.second.0 (omega (arith, c.self.invariant.few, c.told-choice)) c.into_iter-input-iterator.result c.into_iter-input-iterator.ensures.into_iter_gives c.loop-input.yielded c.loop-input.input-iterator c.next.new.self c.next.result c.loop-input.yielded_by c.next.ensures.steps (c.in-Some.input, c.in-Some.field-0-1) c.in-Some.is Nothing in
     let e : c.named_at.result ≡ named (ch k) (b.waiting k) = c.named_at.ensures ∙ ap₂ (λ (x : Arrival) (i : ℕ). named x (b.waiting i)) a.1.1 a.1.0 in
-    let h = named_there n k ch (b.waiting k) c.named_at.result e c.requires.fits (omega (arith, a.0, ap (λ (z : State). z.lines) c.self.view_is)) c.in-Some-named_at.cell c.in-Some-named_at.is in
-    omega (arith, h, c.self.invariant.few, ap (λ (z : State). z.lines) c.self.view_is)
+    let h = named_there n k ch (b.waiting k) c.named_at.result e c.requires.fits (omega (arith, a.0, ap (λ z. z.lines) c.self.view_is)) c.in-Some-named_at.cell c.in-Some-named_at.is in
+    omega (arith, h, c.self.invariant.few, ap (λ z. z.lines) c.self.view_is)
 
 pub loop-input-preserved-in-Some-named_at : goal.loop-input-preserved-in-Some-named_at
 loop-input-preserved-in-Some-named_at c =

@@ -1,4 +1,4 @@
-use Rattle.std.proofs.Common.{rules, ◌≡◌, ℕ, get_or, Some, None, sym, ap, ◌∙◌, subst, arith}
+use Rattle.std.proofs.Common.{rules, ◌≡◌, ℕ, get_or, Some, None, sym, ap, ◌∙◌, arith}
 use Rattle.crossbox.specs.declared.Arrival.{Arrival}
 use Rattle.crossbox.specs.declared.Cell.{Cell}
 use Rattle.buffer.specs.Memory.{view}
@@ -27,7 +27,7 @@ returns c =
     let g = c.self.invariant in
     let few = g.few in
     let there = c.requires.there in
-    let k = ap (λ (z : State). z.lines) c.self.view_is in
+    let k = ap (λ z. z.lines) c.self.view_is in
     let n = cells-length m c.args.input g.sound (omega (arith, g.rows)) in
     let f : place_of_first c.in-For.output l ≡ Some c.in_ok-k.k = search rules in
     let p = found_is c.in-For.output c.in_ok-k.k l f in

@@ -13,7 +13,7 @@ carry-requires c =
     let s = seen b.memory b.held b.lines b.slots in
     let g = c.self.invariant in
     let few = g.few in
-    let l = ap (λ (z : State). z.lines) c.self.view_is in
+    let l = ap (λ z. z.lines) c.self.view_is in
     let i : c.args.input < b.lines = omega (arith, c.requires.there.0) in
     let o : c.args.output < b.lines = omega (arith, c.requires.there.1) in
     let w = subst (λ (z : State). position c.args.output (cells z.mem c.args.input) < length (cells z.mem c.args.input)) (sym c.self.view_is) c.requires.waits in
@@ -35,7 +35,7 @@ pub invariant_of-self : goal.invariant_of-self
 invariant_of-self c =
     let b = c.self.inside in
     let s = seen b.memory b.held b.lines b.slots in
-    let l = ap (λ (z : State). z.lines) c.self.view_is in
+    let l = ap (λ z. z.lines) c.self.view_is in
     let w = subst (λ (z : State). position c.args.output (cells z.mem c.args.input) < length (cells z.mem c.args.input)) (sym c.self.view_is) c.requires.waits in
     let e : view c.carry.new.self ≡ (sent c.args.input c.args.output s).mem = search rules in
     subst (λ (m : Mem). Good (record { mem = m; counts = b.held; lines = b.lines; slots = b.slots })) (sym e)

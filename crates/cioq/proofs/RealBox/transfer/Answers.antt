@@ -1,7 +1,7 @@
 use Rattle.std.proofs.Common.{ℕ, ◌<◌, ◌∷◌, [], length, subst, sym, ap, ◌∙◌, arith}
 use Rattle.std.proofs.lemmas.List.{length-append}
 use Rattle.crossbox.specs.declared.Arrival.TheVariants.{Nothing}
-use Rattle.cioq.specs.State.{State, Good}
+use Rattle.cioq.specs.State.{Good}
 use Rattle.cioq.specs.Spells.{cells}
 use Rattle.cioq.specs.Choice.{choice_of}
 use Rattle.cioq.specs.Transfers.{Sends, transfer_one, transfer_all}
@@ -20,7 +20,7 @@ transfer_one-requires c =
     let t = c.loop-input.self in
     let k = length c.loop-input.yielded in
     let a = line_turn c.self.inside.lines c.args.choice.now c.zip-input-items.result c.zip-input-items.ensures.first c.zip-input-items.ensures.second.0 (omega (arith, c.self.invariant.few, c.told-choice)) c.into_iter-input-iterator.result c.into_iter-input-iterator.ensures.into_iter_gives c.loop-input.yielded c.loop-input.input-iterator c.next.new.self c.next.result c.loop-input.yielded_by c.next.ensures.steps (c.in-Some.input, c.in-Some.field-0-1) c.in-Some.is Nothing in
-    let h : k < s.lines = omega (arith, a.0, ap (λ (z : State). z.lines) c.self.view_is) in
+    let h : k < s.lines = omega (arith, a.0, ap (λ z. z.lines) c.self.view_is) in
     let n = step_lines ch s t k g c.requires.fits c.requires.waits h c.loop-input.invariant in
     record {
       there = omega (arith, h, a.1.0, n);
@@ -38,7 +38,7 @@ loop-input-preserved c =
     let k = length c.loop-input.yielded in
     let x = c.in-Some.field-0-1 in
     let a = line_turn c.self.inside.lines c.args.choice.now c.zip-input-items.result c.zip-input-items.ensures.first c.zip-input-items.ensures.second.0 (omega (arith, c.self.invariant.few, c.told-choice)) c.into_iter-input-iterator.result c.into_iter-input-iterator.ensures.into_iter_gives c.loop-input.yielded c.loop-input.input-iterator c.next.new.self c.next.result c.loop-input.yielded_by c.next.ensures.steps (c.in-Some.input, x) c.in-Some.is Nothing in
-    let h : k < s.lines = omega (arith, a.0, ap (λ (z : State). z.lines) c.self.view_is) in
+    let h : k < s.lines = omega (arith, a.0, ap (λ z. z.lines) c.self.view_is) in
     step_after ch s t k g c.requires.fits c.requires.waits h c.loop-input.invariant _ x.now a.1.1
     (c.transfer_one.ensures ∙ ap (λ (i : ℕ). transfer_one i x.now t) a.1.0)
     ∙ ap (λ (i : ℕ). transfer_all i ch s) (sym (length-append c.loop-input.yielded ((c.in-Some.input, x) ∷ [])))
