@@ -27,7 +27,8 @@ raised counts o l f h p =
       | inr ne ↦ subst (λ (z : ℕ). z ≤ 256) (sym (get_or-set_other counts o p (get_or counts o 0 + 1) 0 ne)) (f p)
     ]
 
-with_good : (s : State) (i o : ℕ) (body : List ℕ) → Good s → i < s.lines → o < s.lines → count_of s o < 256 → Good (with_cell i o body s)
+-- a box with a cell more is good
+pub with_good : (s : State) (i o : ℕ) (body : List ℕ) → Good s → i < s.lines → o < s.lines → count_of s o < 256 → Good (with_cell i o body s)
 with_good s i o body g hi ho h =
     let few = g.few in
     let n = g.outputs in
@@ -136,9 +137,6 @@ module _ (n : ℕ) (bytes : List ℕ) (ok : Ok tt ≡ verdict (judge n 64 false 
 -- at input i, with the lines before admitted: what the step wants and leaves
 module _ (ls : List Line) (s₀ s₁ : State) (i : ℕ) (rest : List ℕ) (g : Good s₀) (b : AllBring s₀.lines ls) (h : i < s₀.lines)
     (e : s₁ ≡ admit_all ls i s₀) (r : read_lines 64 (s₀.lines - i) rest ≡ Some (drop i ls)) where
-  pub step_good : Good s₁
-  step_good = subst Good (sym e) (all_good ls i s₀ g (omega arith) b)
-
   pub step_lines : s₁.lines ≡ s₀.lines
   step_lines = ap (λ (s : State). s.lines) e ∙ all_lines ls i s₀
 

@@ -1,11 +1,9 @@
 -- A box that is made is good, and one that is begun anew is good and empty.
-use Rattle.std.proofs.Common.{◌≡◌, ℕ, zero, suc, ◌+◌, ◌*◌, ◌<◌, ◌≤◌, true, List, [], map, length, get_or, replicate, sym, refl, ap, ◌∙◌, arith}
+use Rattle.std.proofs.Common.{◌≡◌, ℕ, zero, suc, ◌+◌, ◌*◌, ◌<◌, ◌≤◌, true, List, [], map, get_or, replicate, sym, refl, ap, ◌∙◌, arith}
 use Rattle.std.proofs.lemmas.List.{length-append, length-replicate, length-drop}
 use Rattle.std.proofs.lemmas.List.FromFn.{length-range_with_len}
-use Rattle.std.proofs.lemmas.Bool.{and_parts, leb-true}
 use Rattle.crossbox.specs.declared.Cell.{Cell}
 use Rattle.crossbox.specs.Box.{empty, held_for, for_output}
-use Rattle.buffer.specs.declared.Head.{Head}
 use Rattle.buffer.specs.Memory.{Lent, held_at, held, enough, fresh, reset}
 use Rattle.buffer.proofs.Reset.{lent_enough_lem, fresh_sound, reset_sound, reset-row}
 use Rattle.cioq.specs.State.{State, Good, unset, begun}

@@ -33,7 +33,8 @@ lowered counts o f l p =
       | inr ne ↦ subst (λ (z : ℕ). z ≤ 256) (sym (get_or-set_other counts o p (get_or counts o 0 - 1) 0 ne)) (f p)
     ]
 
-without_good : (s : State) (o : ℕ) → Good s → o < s.lines → 0 < row_length s.mem (s.lines + o) → row_length s.mem (s.lines + o) ≤ count_of s o → Good (without_first o s)
+-- and one with a cell less
+pub without_good : (s : State) (o : ℕ) → Good s → o < s.lines → 0 < row_length s.mem (s.lines + o) → row_length s.mem (s.lines + o) ≤ count_of s o → Good (without_first o s)
 without_good s o g h some c =
     let few = g.few in
     let n = g.outputs in

@@ -194,9 +194,6 @@ transfer-more k ch s = ap (λ (n : ℕ). transfer_all n ch s) (add-one k)
 -- at input i, when the inputs before have had their turn
 module _ (ch : Arrivals) (s₀ s₁ : State) (i : ℕ) (g : Good s₀) (fits : Fits s₀.lines ch) (waits : all_wait s₀.lines ch (box_of s₀.lines s₀.mem) ≡ true)
     (h : i < s₀.lines) (e : s₁ ≡ transfer_all i ch s₀) where
-  pub step_good : Good s₁
-  step_good = subst Good (sym e) (transferred_good ch s₀ g fits waits i (omega arith))
-
   pub step_lines : s₁.lines ≡ s₀.lines
   step_lines = ap (λ (s : State). s.lines) e ∙ transferred_lines i ch s₀
 

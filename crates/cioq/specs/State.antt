@@ -3,7 +3,7 @@ use Rattle.std.specs.Prelude.{◌≡◌, ℕ, ◌+◌, ◌*◌, ◌<◌, ◌≤�
 use Rattle.std.specs.List.{AllByRecursion}
 use Rattle.crossbox.specs.declared.Cell.{Cell}
 use Rattle.buffer.specs.Memory.{Mem, view, Sound, row_length, reset}
-use Rattle.cioq.specs.declared.RealBox.{RealBox}
+use Rattle.buffer.specs.declared.memory.Memory.{Memory}
 use Rattle.cioq.specs.Spells.{cells}
 
 -- all that there is: the memory, whose row i is the list of input i and row n + o the store of output o, how many cells are held
@@ -14,8 +14,9 @@ pub record State : Type 0 where
   pub lines : ℕ
   pub slots : ℕ
 
-abbrev pub state : RealBox → State
-state b = record { mem = view b.memory; counts = b.held; lines = b.lines; slots = b.now }
+-- a box of these parts
+abbrev pub seen : Memory 64 8224 → List ℕ → ℕ → ℕ → State
+seen m counts lines slots = record { mem = view m; counts = counts; lines = lines; slots = slots }
 
 -- how many cells are held for output o
 abbrev pub count_of : State → ℕ → ℕ

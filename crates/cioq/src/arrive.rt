@@ -1,7 +1,6 @@
 // Arrivals: each cell is put into the list of its input, or turned away.
 ghost use Rattle.std.specs.Prelude.{◌≡◌, ℕ, ◌^◌, ◌<◌, false, ◌&&◌, Ok, nat_lt, slice_index_or};
 ghost use Rattle.words.specs.Lines.{judge, verdict};
-ghost use Rattle.cioq.specs.State.{state, Good};
 ghost use Rattle.cioq.specs.Arrivals.{Brings, admit_one, turned_away, admit_all, away, slot_lines};
 
 use crate::{ROOM, RealBox};
@@ -11,12 +10,11 @@ use words::{BODY, body_of, read_entry};
 impl<'a> RealBox<'a> {
     // Puts what arrives by an input into its list; true where 256 cells are held for its output, and the cell is turned away.
     fn admit(&mut self, input: u8, arrival: Arrival, body: &[u8]) -> bool
-        requires good { Good (state self.now) }
-        requires early { (state self.now).slots < 2 ^ 32 }
-        requires there { input < (state self.now).lines }
-        requires brings { Brings (state self.now).lines arrival body.now }
-        ensures after { state self.exit.now ≡ admit_one input arrival body.now (state self.entry.now) }
-        ensures away { result ≡ turned_away (state self.entry.now) arrival }
+        requires early { self.old.slots < 2 ^ 32 }
+        requires there { input < self.old.lines }
+        requires brings { Brings self.old.lines arrival body.now }
+        ensures after { self.new ≡ admit_one input arrival body.now self.old }
+        ensures away { result ≡ turned_away self.old arrival }
     {
         let Arrival::For(output) = arrival else {
             return false;
@@ -28,7 +26,7 @@ impl<'a> RealBox<'a> {
         let stored = self.memory.len(self.lines + output);
         let k = stored.min(self.memory.len(input));
         let cell = Cell {
-            slot: self.now as u32,
+            slot: self.slots as u32,
             input,
             output,
         };
@@ -39,11 +37,10 @@ impl<'a> RealBox<'a> {
 
     // Admits the lines of a slot, whose bytes are known to be good; by input, whether its cell was turned away.
     pub fn arrive(&mut self, bytes: &[u8]) -> [bool; 32]
-        requires good { Good (state self.now) }
-        requires early { (state self.now).slots < 2 ^ 32 }
-        requires read { Ok tt ≡ verdict (judge (state self.now).lines 64 false bytes.now) }
-        ensures after { state self.exit.now ≡ admit_all (slot_lines (state self.entry.now).lines bytes.now) (state self.entry.now).lines (state self.entry.now) }
-        ensures away { (i : ℕ) → i < 32 → slice_index_or result i false ≡ (nat_lt i (state self.entry.now).lines && away (slot_lines (state self.entry.now).lines bytes.now) (state self.entry.now) i) }
+        requires early { self.old.slots < 2 ^ 32 }
+        requires read { Ok tt ≡ verdict (judge self.old.lines 64 false bytes.now) }
+        ensures after { self.new ≡ admit_all (slot_lines self.old.lines bytes.now) self.old.lines self.old }
+        ensures away { (i : ℕ) → i < 32 → slice_index_or result i false ≡ (nat_lt i self.old.lines && away (slot_lines self.old.lines bytes.now) self.old i) }
     {
         let mut away = [false; 32];
         let mut rest = bytes;

@@ -2,7 +2,7 @@
 ghost use Rattle.std.specs.Prelude.{◌≡◌, ℕ, ◌<◌, ◌≤◌};
 ghost use Rattle.std.specs.List.{AllByRecursion};
 ghost use Rattle.crossbox.specs.Promise.{Fits};
-ghost use Rattle.cioq.specs.State.{state, Good, Aimed};
+ghost use Rattle.cioq.specs.State.{Aimed};
 ghost use Rattle.cioq.specs.Spells.{cells, box_of};
 ghost use Rattle.cioq.specs.Choice.{choice_of, waits_in, all_wait, one_output, named, picks, gets_of, table_of, settled, all_settled, judge_choice, JudgedIsStable};
 ghost use Rattle.cioq.specs.Named.{StableIsNamed};
@@ -45,9 +45,8 @@ fn one_for_each(lines: u8, choice: &[Arrival; 32]) -> bool
 impl<'a> RealBox<'a> {
     // The cell that is named at an input, if it waits there.
     pub fn named_at(&self, input: u8, arrival: Arrival) -> Option<Cell>
-        requires good { Good (state self.now) }
-        requires there { input < (state self.now).lines }
-        ensures { result ≡ named arrival (cells (state self.entry.now).mem input) }
+        requires there { input < self.now.lines }
+        ensures { result ≡ named arrival (cells self.now.mem input) }
     {
         let Arrival::For(output) = arrival else {
             return None;
@@ -58,9 +57,8 @@ impl<'a> RealBox<'a> {
 
     // Whether the cell that is named at an input, if any, waits there.
     fn waits(&self, input: u8, arrival: Arrival) -> bool
-        requires good { Good (state self.now) }
-        requires there { input < (state self.now).lines }
-        ensures { result ≡ waits_in arrival (cells (state self.entry.now).mem input) }
+        requires there { input < self.now.lines }
+        ensures { result ≡ waits_in arrival (cells self.now.mem input) }
     {
         let Arrival::For(output) = arrival else {
             return true;
@@ -70,8 +68,7 @@ impl<'a> RealBox<'a> {
 
     // Whether every cell that is named waits.
     fn all_wait(&self, choice: &[Arrival; 32]) -> bool
-        requires good { Good (state self.now) }
-        ensures { result ≡ all_wait (state self.entry.now).lines (choice_of choice.now) (box_of (state self.entry.now).lines (state self.entry.now).mem) }
+        ensures { result ≡ all_wait self.now.lines (choice_of choice.now) (box_of self.now.lines self.now.mem) }
     {
         (0..self.lines)
             .zip(choice)
@@ -80,9 +77,8 @@ impl<'a> RealBox<'a> {
 
     // By output, the cell that it gets.
     fn gets(&self, choice: &[Arrival; 32]) -> [Option<Cell>; 32]
-        requires good { Good (state self.now) }
-        requires fits { Fits (state self.now).lines (choice_of choice.now) }
-        ensures { (o : ℕ) → o < 32 → table_of result o ≡ gets_of (picks (state self.entry.now).lines (choice_of choice.now) (box_of (state self.entry.now).lines (state self.entry.now).mem)) o }
+        requires fits { Fits self.now.lines (choice_of choice.now) }
+        ensures { (o : ℕ) → o < 32 → table_of result o ≡ gets_of (picks self.now.lines (choice_of choice.now) (box_of self.now.lines self.now.mem)) o }
     {
         let mut gets = [None; 32];
         for (input, &arrival) in (0..self.lines).zip(choice) {
@@ -95,10 +91,9 @@ impl<'a> RealBox<'a> {
 
     // Whether each cell of a list, up to the one that its input sends, has an output that gets an earlier one.
     fn settled(&self, input: u8, arrival: Arrival, gets: &[Option<Cell>; 32]) -> bool
-        requires good { Good (state self.now) }
-        requires there { input < (state self.now).lines }
-        requires aimed { AllByRecursion (λ c. c.output < 32) (cells (state self.now).mem input) }
-        ensures { result ≡ settled (table_of gets.now) arrival (cells (state self.entry.now).mem input) }
+        requires there { input < self.now.lines }
+        requires aimed { AllByRecursion (λ c. c.output < 32) (cells self.now.mem input) }
+        ensures { result ≡ settled (table_of gets.now) arrival (cells self.now.mem input) }
     {
         (0..self.memory.len(input))
             .map(|k| self.memory.cell(input, k))
@@ -108,9 +103,8 @@ impl<'a> RealBox<'a> {
 
     // Whether that holds of every list.
     fn all_settled(&self, choice: &[Arrival; 32], gets: &[Option<Cell>; 32]) -> bool
-        requires good { Good (state self.now) }
-        requires aimed { Aimed (state self.now) }
-        ensures { result ≡ all_settled (state self.entry.now).lines (table_of gets.now) (choice_of choice.now) (box_of (state self.entry.now).lines (state self.entry.now).mem) }
+        requires aimed { Aimed self.now }
+        ensures { result ≡ all_settled self.now.lines (table_of gets.now) (choice_of choice.now) (box_of self.now.lines self.now.mem) }
     {
         (0..self.lines)
             .zip(choice)
@@ -119,10 +113,9 @@ impl<'a> RealBox<'a> {
 
     // The lowest fault of a choice: a cell that does not wait, two for one output, or one that is left behind without a reason.
     pub fn test(&self, choice: &[Arrival; 32]) -> Result<(), Fault>
-        requires good { Good (state self.now) }
-        requires fits { Fits (state self.now).lines (choice_of choice.now) }
-        requires aimed { Aimed (state self.now) }
-        ensures { result ≡ judge_choice (state self.entry.now).lines (choice_of choice.now) (box_of (state self.entry.now).lines (state self.entry.now).mem) }
+        requires fits { Fits self.now.lines (choice_of choice.now) }
+        requires aimed { Aimed self.now }
+        ensures { result ≡ judge_choice self.now.lines (choice_of choice.now) (box_of self.now.lines self.now.mem) }
     {
         if !self.all_wait(choice) {
             return Err(Fault::NotWaiting);

@@ -4,7 +4,7 @@
 ghost use Rattle.std.specs.Prelude.{◌≡◌, ℕ, ◌+◌, ◌*◌, ◌^◌, ◌<◌, ◌≤◌, true, false, length, MatchOption, slice_index_or};
 ghost use Rattle.crossbox.specs.Cells.{count_earlier};
 ghost use Rattle.buffer.specs.Memory.{lent_by, enough, fresh};
-ghost use Rattle.cioq.specs.State.{State, state, Good, unset, begun, passed};
+ghost use Rattle.cioq.specs.State.{unset, begun, passed};
 ghost use Rattle.cioq.specs.Spells.{box_of};
 
 mod arrive;
@@ -22,6 +22,7 @@ pub use kept::{
     arrivals_stay_within, departures_stay_within, places_keep_their_bytes, settings_stay_within,
     transfer_stays_within,
 };
+use std::marker::Model;
 
 // How many cells the box holds for an output.
 pub const ROOM: u16 = 256;
@@ -43,81 +44,88 @@ pub struct RealBox<'a> {
     memory: Memory<'a, ROWS, ROW_ROOM>,
     held: [u16; 32],
     lines: u8,
-    now: u64,
+    slots: u64,
+}
+
+// Contracts see its memory, how many cells it holds for each output, its number of lines, and how many slots it has had.
+impl<'a> Model for RealBox<'a> {
+    ghost use Rattle.cioq.specs.State.{State, Good, seen};
+
+    ghost Value = { State };
+
+    ghost view = { λ b. seen b.memory b.held b.lines b.slots };
+
+    ghost invariant = { λ b. Good (seen b.memory b.held b.lines b.slots) };
 }
 
 impl<'a> RealBox<'a> {
     // A box over what the caller lends, with no lines yet; None where that is too little.
     pub fn new(loan: Loan<'a>) -> Option<RealBox<'a>>
-        ensures { MatchOption result (enough 64 8224 (lent_by loan.entry) ≡ false) (λ b. (enough 64 8224 (lent_by loan.entry) ≡ true) × (state b ≡ unset (fresh 64 8224 (lent_by loan.entry)))) }
+        ensures { MatchOption result (enough 64 8224 (lent_by loan.entry) ≡ false) (λ b. (enough 64 8224 (lent_by loan.entry) ≡ true) × (b ≡ unset (fresh 64 8224 (lent_by loan.entry)))) }
     {
         let memory = Memory::new(loan)?;
         Some(RealBox {
             memory,
             held: [0; 32],
             lines: 0,
-            now: 0,
+            slots: 0,
         })
     }
 
     // How many lines there are; 0 before the first settings.
     pub fn lines(&self) -> u8
-        ensures { result ≡ (state self.entry.now).lines }
+        ensures { result ≡ self.now.lines }
     {
         self.lines
     }
 
     // How many slots the box has had since its settings.
     pub fn slots(&self) -> u64
-        ensures { result ≡ (state self.entry.now).slots }
+        ensures { result ≡ self.now.slots }
     {
-        self.now
+        self.slots
     }
 
     // Begins anew and empty, with so many lines.
     pub fn begin(&mut self, lines: u8)
-        requires good { Good (state self.now) }
         requires few { lines ≤ 32 }
-        ensures { state self.exit.now ≡ begun lines (state self.entry.now) }
+        ensures { self.new ≡ begun lines self.old }
     {
         self.memory.reset(PLACES_A_LINE * u16::from(lines));
         self.held = [0; 32];
         self.lines = lines;
-        self.now = 0;
+        self.slots = 0;
     }
 
     // Counts a slot that is over.
     pub fn pass(&mut self)
-        requires { (state self.now).slots < 2 ^ 32 }
-        ensures { state self.exit.now ≡ passed (state self.entry.now) }
+        requires { self.old.slots < 2 ^ 32 }
+        ensures { self.new ≡ passed self.old }
     {
-        self.now += 1;
+        self.slots += 1;
     }
 
     // How many cells wait in the list of an input.
     pub fn waiting(&self, input: u8) -> usize
-        requires good { Good (state self.now) }
-        requires there { input < (state self.now).lines }
-        ensures { result ≡ length ((box_of (state self.entry.now).lines (state self.entry.now).mem).waiting input) }
+        requires there { input < self.now.lines }
+        ensures { result ≡ length ((box_of self.now.lines self.now.mem).waiting input) }
     {
         self.memory.len(input)
     }
 
     // The cell behind the first k of those.
     pub fn waiting_cell(&self, input: u8, k: usize) -> Cell
-        requires good { Good (state self.now) }
-        requires there { input < (state self.now).lines }
-        requires within { k < length ((box_of (state self.now).lines (state self.now).mem).waiting input) }
-        ensures { result ≡ slice_index_or ((box_of (state self.entry.now).lines (state self.entry.now).mem).waiting input) k result }
+        requires there { input < self.now.lines }
+        requires within { k < length ((box_of self.now.lines self.now.mem).waiting input) }
+        ensures { result ≡ slice_index_or ((box_of self.now.lines self.now.mem).waiting input) k result }
     {
         self.memory.cell(input, k)
     }
 
     // How many cells in the store of a cell's output are earlier than the cell.
     pub fn earlier_stored(&self, cell: Cell) -> usize
-        requires good { Good (state self.now) }
-        requires there { cell.output < (state self.now).lines }
-        ensures { result ≡ count_earlier cell ((box_of (state self.entry.now).lines (state self.entry.now).mem).store cell.output) }
+        requires there { cell.output < self.now.lines }
+        ensures { result ≡ count_earlier cell ((box_of self.now.lines self.now.mem).store cell.output) }
     {
         count_earlier(&self.memory, self.lines + cell.output, cell)
     }

@@ -1,7 +1,6 @@
 // Transfers: the cells that a choice names go from their lists to their places in the stores.
 ghost use Rattle.std.specs.Prelude.{◌≡◌, ◌<◌, true, length};
 ghost use Rattle.crossbox.specs.Promise.{Fits};
-ghost use Rattle.cioq.specs.State.{state, Good};
 ghost use Rattle.cioq.specs.Spells.{cells, box_of};
 ghost use Rattle.cioq.specs.Choice.{choice_of, all_wait};
 ghost use Rattle.cioq.specs.Transfers.{position, Sends, sent, transfer_one, transfer_all};
@@ -13,10 +12,9 @@ use crossbox::Arrival;
 impl<'a> RealBox<'a> {
     // Carries the first cell for an output in the list of an input to its place in the store.
     fn send(&mut self, input: u8, output: u8)
-        requires good { Good (state self.now) }
-        requires there { (input < (state self.now).lines) × (output < (state self.now).lines) }
-        requires waits { position output (cells (state self.now).mem input) < length (cells (state self.now).mem input) }
-        ensures { state self.exit.now ≡ sent input output (state self.entry.now) }
+        requires there { (input < self.old.lines) × (output < self.old.lines) }
+        requires waits { position output (cells self.old.mem input) < length (cells self.old.mem input) }
+        ensures { self.new ≡ sent input output self.old }
     {
         let k = first_for(&self.memory, input, output).unwrap();
         let cell = self.memory.cell(input, k);
@@ -27,10 +25,9 @@ impl<'a> RealBox<'a> {
 
     // Carries the cell that is named at an input, if any.
     fn transfer_one(&mut self, input: u8, arrival: Arrival)
-        requires good { Good (state self.now) }
-        requires there { input < (state self.now).lines }
-        requires sends { Sends (state self.now).lines arrival (cells (state self.now).mem input) }
-        ensures { state self.exit.now ≡ transfer_one input arrival (state self.entry.now) }
+        requires there { input < self.old.lines }
+        requires sends { Sends self.old.lines arrival (cells self.old.mem input) }
+        ensures { self.new ≡ transfer_one input arrival self.old }
     {
         let Arrival::For(output) = arrival else {
             return;
@@ -40,10 +37,9 @@ impl<'a> RealBox<'a> {
 
     // Carries each cell that a choice names, all of which wait, to its place in its store.
     pub fn transfer(&mut self, choice: &[Arrival; 32])
-        requires good { Good (state self.now) }
-        requires fits { Fits (state self.now).lines (choice_of choice.now) }
-        requires waits { all_wait (state self.now).lines (choice_of choice.now) (box_of (state self.now).lines (state self.now).mem) ≡ true }
-        ensures { state self.exit.now ≡ transfer_all (state self.entry.now).lines (choice_of choice.now) (state self.entry.now) }
+        requires fits { Fits self.old.lines (choice_of choice.now) }
+        requires waits { all_wait self.old.lines (choice_of choice.now) (box_of self.old.lines self.old.mem) ≡ true }
+        ensures { self.new ≡ transfer_all self.old.lines (choice_of choice.now) self.old }
     {
         for (input, &arrival) in (0..self.lines).zip(choice) {
             self.transfer_one(input, arrival);

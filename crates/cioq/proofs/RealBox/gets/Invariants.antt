@@ -1,5 +1,4 @@
 use Rattle.std.proofs.Common.{length}
-use Rattle.buffer.specs.Memory.{view}
 use Rattle.cioq.specs.Spells.{box_of}
 use Rattle.cioq.specs.Choice.{choice_of}
 use Rattle.cioq.proofs.Judging.{Table}
@@ -7,4 +6,4 @@ use Rattle.cioq.proofs.RealBox.gets.Given as goal
 
 -- what the inputs before send is noted
 abbrev pub invariant-loop-input : goal.invariant-loop-input
-invariant-loop-input l = Table l.gets (length l.yielded) (choice_of l.choice) (box_of l.self.lines (view l.self.memory))
+invariant-loop-input l = Table l.gets (length l.yielded) (choice_of l.choice) (box_of l.self.lines l.self.mem)

@@ -1,19 +1,16 @@
-use Rattle.std.proofs.Common.{sym, ◌∙◌, arith}
-use Rattle.buffer.specs.Memory.{view}
+use Rattle.std.proofs.Common.{◌≡◌, subst, sym, ap, ◌∙◌, arith}
+use Rattle.buffer.specs.Memory.{Mem}
+use Rattle.cioq.specs.State.{State, Good}
+use Rattle.cioq.specs.Transfers.{cell_at}
 use Rattle.cioq.proofs.Lists.{cells-length, cells_at}
 use Rattle.cioq.proofs.RealBox.waiting_cell.Goals as goal
 
-pub cell-requires : goal.cell-requires
-cell-requires c =
-    let few = c.requires.good.few in
-    let there = c.requires.there in
-    let n = cells-length (view c.args.self.now.memory) c.args.input c.requires.good.sound (omega (arith, c.requires.good.rows)) in
-    (omega arith, (c.requires.good.sound, (omega arith, omega (arith, c.requires.within))))
-
 pub returns : goal.returns
 returns c =
-    let few = c.requires.good.few in
+    let s = c.args.self.now in
+    let g = subst Good c.self.view_is c.self.invariant in
+    let e = subst (λ (m : Mem). c.cell.result ≡ cell_at m c.args.input c.args.k) (ap (λ (z : State). z.mem) c.self.view_is) c.cell.ensures in
+    let few = g.few in
     let there = c.requires.there in
-    let m = view c.args.self.now.memory in
-    let n = cells-length m c.args.input c.requires.good.sound (omega (arith, c.requires.good.rows)) in
-    c.cell.ensures ∙ sym (cells_at m c.args.input c.args.k c.cell.result c.requires.good.sound (omega (arith, c.requires.good.rows)) (omega (arith, c.requires.within)))
+    let n = cells-length s.mem c.args.input g.sound (omega (arith, g.rows)) in
+    e ∙ sym (cells_at s.mem c.args.input c.args.k c.cell.result g.sound (omega (arith, g.rows)) (omega (arith, c.requires.within)))
