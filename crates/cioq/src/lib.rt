@@ -74,7 +74,8 @@ impl<'a> RealBox<'a> {
 
     // How many lines there are; 0 before the first settings.
     pub fn lines(&self) -> u8
-        ensures { result ≡ self.now.lines }
+        ensures lines { result ≡ self.now.lines }
+        ensures few { result ≤ 32 }
     {
         self.lines
     }
@@ -108,7 +109,8 @@ impl<'a> RealBox<'a> {
     // How many cells wait in the list of an input.
     pub fn waiting(&self, input: u8) -> usize
         requires there { input < self.now.lines }
-        ensures { result ≡ length ((box_of self.now.lines self.now.mem).waiting input) }
+        ensures waiting { result ≡ length ((box_of self.now.lines self.now.mem).waiting input) }
+        ensures short { result ≤ ROW_ROOM }
     {
         self.memory.len(input)
     }

@@ -30,7 +30,7 @@ pub record State : Type 0 where
   pub away : List Bool
 
 abbrev pub state : Crowd → State
-state c = record { real = real.state c.real; due = c.due; away = c.away }
+state c = record { real = c.real; due = c.due; away = c.away }
 
 -- memory spells a box of n lines after these slots, each cell with the bytes with which it came
 pub record Holds (s : real.State) (n : ℕ) (past : List SlotIn) (b : Box) : Type 0 where

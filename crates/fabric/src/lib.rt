@@ -6,7 +6,7 @@ ghost use Rattle.crossbox.specs.Box.{Box};
 ghost use Rattle.matching.specs.Making.{TableOf};
 ghost use Rattle.matching.specs.Table.{Finds};
 ghost use Rattle.cioq.specs.Arrivals.{slot_lines};
-ghost use Rattle.cioq.specs.State.{state, Good, Aimed};
+ghost use Rattle.cioq.specs.State.{Aimed};
 ghost use Rattle.buffer.specs.Memory.{lent_by, enough, fresh};
 ghost use Rattle.words.specs.Lines.{judge, verdict};
 ghost use Rattle.switch.specs.Respond.{SlotIn};
@@ -31,9 +31,9 @@ pub struct Fabric<'a> {
 
 // Notes the list of an input in the table.
 fn scan(real: &RealBox<'_>, firsts: &mut Firsts, input: u8)
-    requires good { Good (state real.now) × Aimed (state real.now) }
-    requires there { input < (state real.now).lines }
-    ensures { TableOf firsts.old (up_to (state real.entry.now) input 0) → TableOf firsts.new (up_to (state real.entry.now) (input + 1) 0) }
+    requires aimed { Aimed real.now }
+    requires there { (input < 32) × (input < real.now.lines) }
+    ensures { TableOf firsts.old (up_to real.now input 0) → TableOf firsts.new (up_to real.now (input + 1) 0) }
 {
     for k in 0..real.waiting(input) {
         firsts.note(input, k as u16, real.waiting_cell(input, k));
@@ -42,8 +42,8 @@ fn scan(real: &RealBox<'_>, firsts: &mut Firsts, input: u8)
 
 // Makes the table of the first cell of each pair.
 fn tabulate(real: &RealBox<'_>, firsts: &mut Firsts)
-    requires { Good (state real.now) × Aimed (state real.now) }
-    ensures { TableOf firsts.new (up_to (state real.entry.now) (state real.entry.now).lines 0) }
+    requires { Aimed real.now }
+    ensures { TableOf firsts.new (up_to real.now real.now.lines 0) }
 {
     firsts.clear();
     for input in 0..real.lines() {
@@ -53,9 +53,9 @@ fn tabulate(real: &RealBox<'_>, firsts: &mut Firsts)
 
 // Finds the choice that is transferred.
 fn choose(real: &RealBox<'_>, firsts: &mut Firsts) -> Found
-    requires good { Good (state real.now) × Aimed (state real.now) }
-    requires tied { (b : Box) × Tied (state real.now) b }
-    ensures { (b : Box) → Tied (state real.entry.now) b → Finds result (state real.entry.now).lines b }
+    requires aimed { Aimed real.now }
+    requires tied { (b : Box) × Tied real.now b }
+    ensures { (b : Box) → Tied real.now b → Finds result real.now.lines b }
 {
     tabulate(real, firsts);
     find(firsts, real.lines())
@@ -64,7 +64,7 @@ fn choose(real: &RealBox<'_>, firsts: &mut Firsts) -> Found
 impl<'a> Fabric<'a> {
     // A box over what the caller lends, with no lines yet; None where that is too little.
     pub fn new(loan: Loan<'a>) -> Option<Fabric<'a>>
-        ensures { MatchOption result (enough 64 8224 (lent_by loan.entry) ≡ false) (λ b. (enough 64 8224 (lent_by loan.entry) ≡ true) × Shows (state b.real) Unset × ((state b.real).mem ≡ fresh 64 8224 (lent_by loan.entry))) }
+        ensures { MatchOption result (enough 64 8224 (lent_by loan.entry) ≡ false) (λ b. (enough 64 8224 (lent_by loan.entry) ≡ true) × Shows b.real Unset × (b.real.mem ≡ fresh 64 8224 (lent_by loan.entry))) }
     {
         let real = RealBox::new(loan)?;
         Some(Fabric {
@@ -75,10 +75,10 @@ impl<'a> Fabric<'a> {
 
     // Serves a slot whose lines have been judged good, and writes its answer.
     fn serve_slot(&mut self, lines: &[u8], answer: &mut Answer)
-        requires runs { (past : List SlotIn) × Runs (state self.old.real) (state self.old.real).lines past }
-        requires early { (state self.old.real).slots < 2 ^ 32 }
-        requires read { Ok tt ≡ verdict (judge (state self.old.real).lines 64 false lines.now) }
-        ensures { (past : List SlotIn) → Runs (state self.old.real) (state self.old.real).lines past → Serves (Shows (state self.new.real)) 16448 (state self.old.real).lines past (slot_lines (state self.old.real).lines lines.now) (lent_to (state self.old.real).mem) (lent_to (state self.new.real).mem) answer.old answer.new }
+        requires runs { (past : List SlotIn) × Runs self.old.real self.old.real.lines past }
+        requires early { self.old.real.slots < 2 ^ 32 }
+        requires read { Ok tt ≡ verdict (judge self.old.real.lines 64 false lines.now) }
+        ensures { (past : List SlotIn) → Runs self.old.real self.old.real.lines past → Serves (Shows self.new.real) 16448 self.old.real.lines past (slot_lines self.old.real.lines lines.now) (lent_to self.old.real.mem) (lent_to self.new.real.mem) answer.old answer.new }
     {
         let inputs = self.real.lines() as usize;
         let turned_away = self.real.arrive(lines);
@@ -94,9 +94,9 @@ impl<'a> Fabric<'a> {
 }
 
 impl Switch for Fabric<'_> {
-    ghost shows = { λ b st. Shows (state b.real) st };
+    ghost shows = { λ b st. Shows b.real st };
 
-    ghost lent = { λ b. lent_to (state b.real).mem };
+    ghost lent = { λ b. lent_to b.real.mem };
 
     ghost width = { λ b. 16448 };
 

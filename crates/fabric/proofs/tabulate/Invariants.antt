@@ -1,7 +1,6 @@
 use Rattle.matching.specs.Making.{TableOf}
-use Rattle.cioq.specs.State.{state}
 use Rattle.fabric.specs.Real.{up_to}
 use Rattle.fabric.proofs.tabulate.Given as goal
 
 abbrev pub invariant-loop-input : goal.invariant-loop-input
-invariant-loop-input l = TableOf l.firsts (up_to (state l.real) l.input 0)
+invariant-loop-input l = TableOf l.firsts (up_to l.real l.input 0)

@@ -13,10 +13,9 @@ pub test-requires : goal.test-requires
 test-requires c =
     let s = state c.args.self.now in
     let bytes = c.args.lines.now in
-    let ok = subst (λ (n : ℕ). Ok tt ≡ verdict (judge n 0 false bytes)) c.lines.ensures (sym c.in_ok-judge_lines.was ∙ c.judge_lines.ensures) in
-    let named = subst (λ (n : ℕ). choice_of c.read_choice-choice.result ≡ arrivals_of (choice_lines n bytes)) c.lines-2.ensures c.read_choice-choice.ensures in
+    let ok = subst (λ (n : ℕ). Ok tt ≡ verdict (judge n 0 false bytes)) c.lines.ensures.lines (sym c.in_ok-judge_lines.was ∙ c.judge_lines.ensures) in
+    let named = subst (λ (n : ℕ). choice_of c.read_choice-choice.result ≡ arrivals_of (choice_lines n bytes)) c.lines-2.ensures.lines c.read_choice-choice.ensures in
     record {
-      good = shows_good s c.requires.0 c.requires.1;
       fits = subst (λ (ch : Arrivals). Fits s.real.lines ch) (sym named) (choice_fits s.real.lines bytes ok);
       aimed = shows_aimed s c.requires.0 c.requires.1;
     }

@@ -17,7 +17,6 @@ pub transfer-requires : goal.transfer-requires
 transfer-requires c =
     let s = state c.args.self.now in
     record {
-      good = shows_good s c.requires.0 c.requires.1;
       fits = found-fits s c.args.lines.now c.in_ok-choice.choice c.in_ok-choice.ensures;
       waits = found_waits s c.args.lines.now c.in_ok-choice.choice c.in_ok-choice.ensures;
     }
@@ -30,7 +29,6 @@ depart-requires c =
     let fits = found-fits s c.args.lines.now c.in_ok-choice.choice c.in_ok-choice.ensures in
     let n : c.transfer.new.self.lines ≡ s.real.lines = ap (λ (z : real.State). z.lines) c.transfer.ensures ∙ transferred_lines s.real.lines ch s.real in
     record {
-      good = subst Good (sym c.transfer.ensures) (transferred_good ch s.real g fits (found_waits s c.args.lines.now c.in_ok-choice.choice c.in_ok-choice.ensures) s.real.lines (omega arith));
       counted = subst Counted (sym c.transfer.ensures) (shows_counted s c.requires.0 c.requires.1 ch fits (found_good s c.args.lines.now c.in_ok-choice.choice c.in_ok-choice.ensures));
       room = omega (arith, n, g.few, ap (λ (d : Draft). d.len) c.begin.ensures);
     }
@@ -40,15 +38,15 @@ push_flags-requires c =
     let s = state c.args.self.now in
     let g = shows_good s c.requires.0 c.requires.1 in
     let n : c.transfer.new.self.lines ≡ s.real.lines = ap (λ (z : real.State). z.lines) c.transfer.ensures ∙ transferred_lines s.real.lines (choice_of c.in_ok-choice.choice) s.real in
-    omega (arith, n, g.few, c.lines-inputs.ensures, c.depart.ensures.short, ap (λ (d : Draft). d.len) c.begin.ensures, length-take c.lines-inputs.result s.away)
+    omega (arith, n, g.few, c.lines-inputs.ensures.lines, c.depart.ensures.short, ap (λ (d : Draft). d.len) c.begin.ensures, length-take c.lines-inputs.result s.away)
 
 pub returns : goal.returns
 returns c told same =
     let s = state c.args.self.now in
-    let mid = real.state c.transfer.new.self in
-    let last = real.state c.depart.new.self in
+    let mid = c.transfer.new.self in
+    let last = c.depart.new.self in
     let out = c.args.answer.now in
     found-chosen s c.args.lines.now c.in_ok-choice.choice c.in_ok-choice.ensures _ _
     (λ ls e. subst (λ (d : Draft). First ls s (record { real = last; due = due.Second; away = s.away }) out d) (sym same)
     (first_taken s mid last ls (choice_of c.in_ok-choice.choice) c.lines-inputs.result out c.begin.new.self c.depart.new.answer c.push_flags.new.self e
-    c.transfer.ensures c.depart.ensures.after c.lines-inputs.ensures c.begin.ensures c.depart.ensures.answer c.push_flags.ensures))
+    c.transfer.ensures c.depart.ensures.after c.lines-inputs.ensures.lines c.begin.ensures c.depart.ensures.answer c.push_flags.ensures))

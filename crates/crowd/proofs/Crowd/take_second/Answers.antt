@@ -7,7 +7,6 @@ pub transfer-requires : goal.transfer-requires
 transfer-requires c =
     let s = state c.args.self.now in
     record {
-      good = shows_good s c.requires.0 c.requires.1;
       fits = found-fits s c.args.lines.now c.in_ok-choice.choice c.in_ok-choice.ensures;
       waits = found_waits s c.args.lines.now c.in_ok-choice.choice c.in_ok-choice.ensures;
     }

@@ -5,4 +5,4 @@ use Rattle.crowd.proofs.Shown.{shown_list}
 use Rattle.crowd.proofs.Crowd.waiting.Goals as goal
 
 pub returns : goal.returns
-returns c = λ st h. c.waiting.ensures ∙ ap (λ (l : List Cell). length l) (shown_list (state c.args.self.now) st h c.args.input c.requires.there)
+returns c = λ st h. c.waiting.ensures.waiting ∙ ap (λ (l : List Cell). length l) (shown_list (state c.args.self.now) st h c.args.input c.requires.there)

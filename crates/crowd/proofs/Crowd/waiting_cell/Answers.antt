@@ -9,7 +9,6 @@ pub waiting_cell-requires : goal.waiting_cell-requires
 waiting_cell-requires c =
     let s = state c.args.self.now in
     record {
-      good = shows_good s c.requires.shown.0 c.requires.shown.1;
       there = c.requires.there;
       within = subst (λ (l : List Cell). c.args.k < length l) (sym (shown_list s c.requires.shown.0 c.requires.shown.1 c.args.input c.requires.there)) (c.requires.within c.requires.shown.0 c.requires.shown.1);
     }

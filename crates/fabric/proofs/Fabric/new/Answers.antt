@@ -1,5 +1,5 @@
 use Rattle.std.proofs.Common.{ap}
-use Rattle.cioq.specs.State.{State, state}
+use Rattle.cioq.specs.State.{State}
 use Rattle.fabric.proofs.Laws.{made_unset}
 use Rattle.fabric.proofs.Fabric.new.Goals as goal
 
@@ -7,4 +7,4 @@ pub returns : goal.returns
 returns c =
     let e = c.in_ok-real.ensures.0 in
     let q = c.in_ok-real.ensures.1 in
-    (e, made_unset _ (state c.in_ok-real.real) e q, ap (λ (z : State). z.mem) q)
+    (e, made_unset _ c.in_ok-real.real e q, ap (λ (z : State). z.mem) q)
