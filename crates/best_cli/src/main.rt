@@ -16,8 +16,5 @@ fn best(rt: &HostRuntime) -> Result<(), CliError> {
 
 fn main(rt: HostRuntime) -> ExitCode {
     let result = best(&rt);
-    match cli::report(&rt, "best", result) {
-        Ok(()) => ExitCode::SUCCESS,
-        Err(_) => ExitCode::FAILURE,
-    }
+    cli::ended(&rt, "best", result)
 }

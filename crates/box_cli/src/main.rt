@@ -16,8 +16,5 @@ fn real(rt: &HostRuntime) -> Result<(), CliError> {
 
 fn main(rt: HostRuntime) -> ExitCode {
     let result = real(&rt);
-    match cli::report(&rt, "box", result) {
-        Ok(()) => ExitCode::SUCCESS,
-        Err(_) => ExitCode::FAILURE,
-    }
+    cli::ended(&rt, "box", result)
 }

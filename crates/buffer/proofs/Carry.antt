@@ -4,8 +4,8 @@ use Rattle.std.proofs.Common.{◌≡◌, ℕ, ◌+◌, ◌-◌, ◌*◌, ◌<◌
 use Rattle.std.specs.List.{AllByRecursion, insert, remove as removed}
 use Rattle.std.proofs.lemmas.List.{set-set, set-get_or, get_or-set_same, get_or-set_other, take-set, length-take-le, length-drop}
 use Rattle.crossbox.specs.declared.Cell.{Cell}
-use Rattle.buffer.specs.declared.Head.{Head}
-use Rattle.buffer.specs.Head.{vacant, head_of, cell_of}
+use Rattle.places.specs.declared.Head.{Head}
+use Rattle.places.specs.Head.{vacant, head_of, cell_of}
 use Rattle.buffer.specs.Rows.{moved_up, moved_down, edited}
 use Rattle.buffer.specs.Memory.{Mem, Held, held_at, held, head_at, Sound, Owned, Distinct, row_length, place_at, next, put, remove, carry}
 use Rattle.buffer.proofs.Safety.{row_few, row_end}

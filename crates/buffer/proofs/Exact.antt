@@ -3,8 +3,8 @@ use Rattle.std.proofs.Common.{◌≡◌, ℕ, ◌+◌, ◌-◌, ◌*◌, ◌≤�
 use Rattle.std.specs.List.{range_with_len}
 use Rattle.std.proofs.lemmas.List.{length-take-le}
 use Rattle.crossbox.specs.declared.Cell.{Cell}
-use Rattle.buffer.specs.declared.Head.{Head}
-use Rattle.buffer.specs.Head.{vacant, head_of}
+use Rattle.places.specs.declared.Head.{Head}
+use Rattle.places.specs.Head.{vacant, head_of}
 use Rattle.buffer.specs.Rows.{moved_up, moved_down}
 use Rattle.buffer.specs.Memory.{Mem, row_length, put, remove, reset, place_at}
 

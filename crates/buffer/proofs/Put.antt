@@ -6,8 +6,8 @@ use Rattle.std.proofs.ByRecursion.{All-weaker, All-get_or, All-take}
 use Rattle.std.proofs.lemmas.List.Sums.{sum_by-set}
 use Rattle.std.proofs.lemmas.Bool.{cases_order, cases_eq}
 use Rattle.crossbox.specs.declared.Cell.{Cell}
-use Rattle.buffer.specs.declared.Head.{Head}
-use Rattle.buffer.specs.Head.{head_of, cell_of, vacant}
+use Rattle.places.specs.declared.Head.{Head}
+use Rattle.places.specs.Head.{head_of, cell_of, vacant}
 use Rattle.buffer.specs.Rows.{moved_up, edited}
 use Rattle.buffer.specs.Memory.{Mem, Held, held_at, held, head_at, Sound, Owned, Distinct, row_length, row, next, put}
 use Rattle.buffer.proofs.Safety.{row_end, next_in}

@@ -5,8 +5,8 @@ use Rattle.std.proofs.lemmas.List.{length-set, length-drop, get_or-set_same, get
 use Rattle.std.proofs.ByRecursion.{All-weaker, All-get_or, All-append}
 use Rattle.std.proofs.lemmas.List.Sums.{sum_by-set}
 use Rattle.std.proofs.lemmas.Bool.{cases_eq}
-use Rattle.buffer.specs.declared.Head.{Head}
-use Rattle.buffer.specs.Head.{vacant}
+use Rattle.places.specs.declared.Head.{Head}
+use Rattle.places.specs.Head.{vacant}
 use Rattle.buffer.specs.Rows.{moved_down}
 use Rattle.buffer.specs.Memory.{Mem, held_at, held, head_at, Sound, Owned, Distinct, row_length, row, place_at, remove}
 use Rattle.buffer.proofs.Safety.{row_end, row_few, row-length, row_at, place_in}

@@ -6,8 +6,8 @@ use Rattle.std.proofs.ByRecursion.{All-weaker}
 use Rattle.std.proofs.lemmas.List.FromFn.{length-range_with_len}
 use Rattle.std.proofs.lemmas.List.Sums.{sum_by-cons}
 use Rattle.std.proofs.lemmas.Bool.{and_parts, leb-true}
-use Rattle.buffer.specs.declared.Head.{Head}
-use Rattle.buffer.specs.Head.{vacant}
+use Rattle.places.specs.declared.Head.{Head}
+use Rattle.places.specs.Head.{vacant}
 use Rattle.buffer.specs.Memory.{Lent, Mem, Sound, Owned, Distinct, row_length, row, reset, fresh, enough}
 
 sum_zeros : (n : ℕ) → sum (replicate n 0) ≡ 0

@@ -4,8 +4,8 @@ use Rattle.std.specs.List.{range_with_len}
 use Rattle.std.proofs.lemmas.List.{places, same_lists, drop-set-lt, get_or-take, length-take, length-drop, length-append, length-replicate, take_at, drop_at, append-nil, drop_all}
 use Rattle.std.proofs.lemmas.List.FromFn.{length-range_with_len}
 use Rattle.crossbox.specs.declared.Cell.{Cell}
-use Rattle.buffer.specs.declared.Head.{Head}
-use Rattle.buffer.specs.Head.{vacant, head_of}
+use Rattle.places.specs.declared.Head.{Head}
+use Rattle.places.specs.Head.{vacant, head_of}
 use Rattle.buffer.specs.Rows.{moved_up, moved_down, edited}
 use Rattle.buffer.specs.Memory.{Lent, Mem, Sound, row_length, next, put, place_at, remove, reset}
 use Rattle.buffer.specs.Lent.{lent_to, beyond, within}

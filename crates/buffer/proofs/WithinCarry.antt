@@ -2,8 +2,8 @@
 use Rattle.std.proofs.Common.{◌≡◌, ℕ, ◌+◌, ◌-◌, ◌*◌, ◌<◌, ◌≤◌, List, [], map, length, take, drop, set, sym, refl, ap, ◌∙◌, arith}
 use Rattle.std.proofs.lemmas.List.{places, same_lists, drop-set-lt, get_or-take, length-take, length-drop}
 use Rattle.std.proofs.ByRecursion.{All-weaker}
-use Rattle.buffer.specs.declared.Head.{Head}
-use Rattle.buffer.specs.Head.{vacant, head_of, cell_of}
+use Rattle.places.specs.declared.Head.{Head}
+use Rattle.places.specs.Head.{vacant, head_of, cell_of}
 use Rattle.buffer.specs.Rows.{moved_up, moved_down, edited}
 use Rattle.buffer.specs.Memory.{Mem, Sound, Owned, held_at, held, head_at, row_length, row, place_at, carry}
 use Rattle.buffer.specs.Lent.{lent_to, beyond, within}

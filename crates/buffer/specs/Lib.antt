@@ -1,4 +1,3 @@
-pub mod Head
 pub mod Rows
 pub mod Memory
 pub mod Lent

@@ -2,10 +2,10 @@
 use Rattle.std.specs.Prelude.{◌≡◌, ℕ, ◌+◌, ◌-◌, ◌*◌, ◌<◌, ◌≤◌, Bool, ◌&&◌, List, [], ◌∷◌, ◌++◌, map, length, take, drop, replicate, sum, ◌≢◌, nat_le, slice_index, slice_index_or, slice_set}
 use Rattle.std.specs.List.{range_with_len, AllByRecursion}
 use Rattle.crossbox.specs.declared.Cell.{Cell}
-use Rattle.buffer.specs.declared.Head.{Head}
+use Rattle.places.specs.declared.Head.{Head}
 use Rattle.buffer.specs.declared.Loan.{Loan}
 use Rattle.buffer.specs.declared.memory.Memory.{Memory}
-use Rattle.buffer.specs.Head.{vacant, head_of, cell_of}
+use Rattle.places.specs.Head.{vacant, head_of, cell_of}
 use Rattle.buffer.specs.Rows.{moved_up, moved_down, edited}
 
 -- all that the caller lends, as plain lists

@@ -1,6 +1,6 @@
 // The lent memory of a box with ROWS rows of room for ROOM places each.
 ghost use Rattle.std.specs.Prelude.{◌≡◌, ℕ, ◌+◌, ◌-◌, ◌*◌, ◌<◌, ◌≤◌, true, false, [], ◌∷◌, ◌++◌, length, replicate, MatchOption, ◌≢◌, nat_le, slice_index_or};
-ghost use Rattle.buffer.specs.Head.{cell_of, vacant};
+ghost use Rattle.places.specs.Head.{cell_of, vacant};
 ghost use Rattle.buffer.specs.Memory.{Mem, view, Sound, lent_by, enough, fresh, put as put_cell, remove as remove_cell, carry as carry_cell, reset as reset_places, place_at, row_length, head_at};
 
 use crate::rows::{move_down, move_up, number, vacate};
@@ -14,6 +14,8 @@ fn rows_fit(count: usize, room: usize, len: usize) -> bool
     count.checked_mul(room).is_some_and(|size| size <= len)
 }
 
+// `Sound` stands in the clauses: a ghost field would have to hold in the middle of a put too, and a model of a struct with const
+// parameters that holds references gets no proof.
 #[derive(Drop)]
 pub struct Memory<'a, const ROWS: usize, const ROOM: usize> {
     heads: &'a mut [Head],

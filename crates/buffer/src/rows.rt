@@ -1,7 +1,7 @@
 // Parts of rows of places.
 ghost use Rattle.std.specs.Prelude.{◌≡◌, ℕ, ◌-◌, ◌<◌, ◌≤◌, ◌∷◌, ◌++◌, length, replicate};
 ghost use Rattle.std.specs.List.{range_with_len};
-ghost use Rattle.buffer.specs.Head.{vacant};
+ghost use Rattle.places.specs.Head.{vacant};
 ghost use Rattle.buffer.specs.Rows.{moved_up, moved_down};
 
 use crate::Head;

@@ -6,7 +6,7 @@ use Rattle.crossbox.specs.declared.Arrival.{Arrival}
 use Rattle.crossbox.specs.declared.Arrival.TheVariants.{Nothing, For}
 use Rattle.crossbox.specs.declared.Cell.{Cell}
 use Rattle.crossbox.specs.Cells.{Arrivals}
-use Rattle.buffer.specs.declared.Head.{Head}
+use Rattle.places.specs.declared.Head.{Head}
 use Rattle.buffer.specs.Memory.{Mem, head_at, row_length, next, put}
 use Rattle.buffer.proofs.Safety.{next_in}
 use Rattle.buffer.proofs.Put.{next_owned, head_there, head_elsewhere}

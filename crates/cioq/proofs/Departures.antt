@@ -5,7 +5,7 @@ use Rattle.std.proofs.lemmas.List.Sums.{sum_by-set}
 use Rattle.std.proofs.lemmas.Bool.{cases_eq, cond_both}
 use Rattle.std.proofs.lemmas.Bool.Decides.{nat_tests}
 use Rattle.crossbox.specs.declared.Cell.{Cell}
-use Rattle.buffer.specs.Head.{cell_of}
+use Rattle.places.specs.Head.{cell_of}
 use Rattle.buffer.specs.Memory.{row_length, head_at, place_at}
 use Rattle.buffer.proofs.Remove.{remove_sound}
 use Rattle.words.specs.Answer.{leaving}

@@ -7,8 +7,8 @@ use Rattle.crossbox.specs.declared.Arrival.TheVariants.{Nothing, For}
 use Rattle.crossbox.specs.declared.Cell.{Cell}
 use Rattle.crossbox.specs.Cells.{Arrivals}
 use Rattle.crossbox.specs.Promise.{Fits}
-use Rattle.buffer.specs.declared.Head.{Head}
-use Rattle.buffer.specs.Head.{cell_of}
+use Rattle.places.specs.declared.Head.{Head}
+use Rattle.places.specs.Head.{cell_of}
 use Rattle.buffer.specs.Memory.{Mem, Held, held, head_at, place_at, row_length, put, remove, carry}
 use Rattle.buffer.specs.Lent.{lent_to, beyond, within}
 use Rattle.buffer.proofs.Within.{put-beyond, put-within, remove-beyond, remove-within, reset-beyond, reset-within}

@@ -2,7 +2,7 @@
 use Rattle.std.specs.Prelude.{ℕ, zero, suc, ◌+◌, ◌-◌, cond, List, [], ◌++◌, Some, None, Option, ◌==◌, slice_index_or, slice_set}
 use Rattle.crossbox.specs.declared.Cell.{Cell}
 use Rattle.crossbox.specs.Box.{Box, departs}
-use Rattle.buffer.specs.Head.{cell_of}
+use Rattle.places.specs.Head.{cell_of}
 use Rattle.buffer.specs.Memory.{row_length, head_at, place_at, remove}
 use Rattle.words.specs.Answer.{Departure, leaving}
 use Rattle.cioq.specs.State.{State, count_of}

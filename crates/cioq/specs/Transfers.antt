@@ -5,7 +5,7 @@ use Rattle.crossbox.specs.declared.Arrival.{Arrival}
 use Rattle.crossbox.specs.declared.Arrival.TheVariants.{Nothing, For}
 use Rattle.crossbox.specs.declared.Cell.{Cell}
 use Rattle.crossbox.specs.Cells.{Arrivals, earlier}
-use Rattle.buffer.specs.Head.{cell_of}
+use Rattle.places.specs.Head.{cell_of}
 use Rattle.buffer.specs.Memory.{Mem, carry, head_at, place_at}
 use Rattle.cioq.specs.State.{State}
 use Rattle.cioq.specs.Spells.{cells}

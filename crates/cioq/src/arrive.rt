@@ -3,7 +3,8 @@ ghost use Rattle.std.specs.Prelude.{◌≡◌, ℕ, ◌^◌, ◌<◌, false, ◌
 ghost use Rattle.words.specs.Lines.{judge, verdict};
 ghost use Rattle.cioq.specs.Arrivals.{Brings, admit_one, turned_away, admit_all, away, slot_lines};
 
-use crate::{ROOM, RealBox};
+use crate::RealBox;
+use buffer::ROOM;
 use crossbox::{Arrival, Cell};
 use words::{BODY, body_of, read_entry};
 
@@ -20,7 +21,7 @@ impl<'a> RealBox<'a> {
             return false;
         };
         let count = self.held[output as usize];
-        if count >= ROOM {
+        if count as usize >= ROOM {
             return true;
         }
         let stored = self.memory.len(self.lines + output);

@@ -15,7 +15,7 @@ mod search;
 mod transfer;
 
 use crate::search::count_earlier;
-use buffer::{Loan, Memory};
+use buffer::{Loan, Memory, PLACES, PLACES_A_LINE};
 use crossbox::Cell;
 pub use judge::{stable_choices_are_named, taken_choices_are_stable};
 pub use kept::{
@@ -24,17 +24,11 @@ pub use kept::{
 };
 use std::marker::Model;
 
-// How many cells the box holds for an output.
-pub const ROOM: u16 = 256;
-
-// Places for each line: as many as are held for an output, and one more.
-const PLACES_A_LINE: u16 = 257;
-
 // Rows: a list for each of 32 inputs, and a store for each of 32 outputs.
 pub const ROWS: usize = 64;
 
 // The room of a row: for all places.
-pub const ROW_ROOM: usize = 8224;
+pub const ROW_ROOM: usize = PLACES;
 
 // The entries of rows that the box is lent.
 pub const ENTRIES: usize = ROWS * ROW_ROOM;

@@ -1,5 +1,6 @@
 // The loop of a program: reads large pieces, serves what has come, and writes what comes of it before it waits for more.
-ghost use Rattle.std.specs.Prelude.{◌≡◌, ◌≤◌, length, IfOk};
+ghost use Rattle.std.specs.Prelude.{◌≡◌, ◌≤◌, cond, is_ok, length, IfOk};
+ghost use Rattle.std.specs.Process.{exit_status};
 ghost use Rattle.switch.specs.Respond.{Status};
 
 use crate::args::{Request, read_args};
@@ -7,6 +8,7 @@ use crate::fault::CliError;
 use crate::usage::{Usage, print_usage};
 use serve::{Server, Service, Stream};
 use std::io::Read;
+use std::process::ExitCode;
 use switch::Switch;
 
 // How many bytes are read at once.
@@ -66,12 +68,15 @@ pub fn run<S: Switch>(rt: &HostRuntime, name: &str, switch: &mut S) -> Result<()
     }
 }
 
-// Says on standard error what went wrong, and hands it on.
-pub fn report(rt: &HostRuntime, name: &str, res: Result<(), CliError>) -> Result<(), CliError>
-    ensures { result ≡ res }
+// Says on standard error what went wrong, if anything did, and gives the status to end with.
+pub fn ended(rt: &HostRuntime, name: &str, res: Result<(), CliError>) -> ExitCode
+    ensures { exit_status result ≡ cond (is_ok res) 0 1 }
 {
-    if let Err(e) = &res {
-        let _ = eprintln!(rt; "{name}: {e}");
+    match res {
+        Ok(()) => ExitCode::SUCCESS,
+        Err(e) => {
+            let _ = eprintln!(rt; "{name}: {e}");
+            ExitCode::FAILURE
+        }
     }
-    res
 }

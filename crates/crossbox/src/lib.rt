@@ -9,6 +9,9 @@ ghost use Rattle.crossbox.specs.Promise.{MoreEarlier, StoresRise, StoresRiseTran
 ghost use Rattle.crossbox.specs.Shape.{EarliestIsFirst, DepartDropsFirst};
 ghost use Rattle.crossbox.specs.Slack.{ArriveSlack, TransferSlack, DepartSlack};
 
+// The bytes that a cell carries.
+pub const BODY: usize = 64;
+
 // What arrives by one input in a slot: nothing, or a cell for an output.
 // Not an Option<u8>: what arrives is an enum of its own by a rule of the project.
 #[derive(Clone, Copy, PartialEq, Eq)]

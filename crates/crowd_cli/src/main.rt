@@ -36,8 +36,5 @@ fn serve_request(rt: &HostRuntime) -> Result<(), CliError> {
 
 fn main(rt: HostRuntime) -> ExitCode {
     let result = serve_request(&rt);
-    match cli::report(&rt, "crowd", result) {
-        Ok(()) => ExitCode::SUCCESS,
-        Err(_) => ExitCode::FAILURE,
-    }
+    cli::ended(&rt, "crowd", result)
 }

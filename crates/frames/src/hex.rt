@@ -123,7 +123,7 @@ fn digit_value(c: u8) -> Option<u8>
     Some(value as u8)
 }
 
-// The digit of a value.
+// The digit of a value, by hand: `char::from_digit` gives an option of a char, and is no plainer.
 #[tactic(auto, using(std::proofs::lemmas::Bool::Decides::nat_tests), unfolding(crate::specs::Hex::digit))]
 fn hex_digit(value: u8) -> u8
     requires { value < digit_values }

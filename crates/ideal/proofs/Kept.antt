@@ -5,7 +5,7 @@ use Rattle.std.proofs.lemmas.Bool.{cases_Bool, cases_eq, ltb-true}
 use Rattle.crossbox.specs.declared.Arrival.{Arrival}
 use Rattle.crossbox.specs.declared.Arrival.TheVariants.{Nothing, For}
 use Rattle.crossbox.specs.declared.Cell.{Cell}
-use Rattle.buffer.specs.declared.Head.{Head}
+use Rattle.places.specs.declared.Head.{Head}
 use Rattle.buffer.specs.Memory.{Mem, head_at, row_length, next, put, remove}
 use Rattle.buffer.specs.Lent.{lent_to, beyond, within}
 use Rattle.buffer.proofs.Safety.{next_in}

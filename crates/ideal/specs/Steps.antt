@@ -4,7 +4,7 @@ use Rattle.std.specs.List.{range_with_len}
 use Rattle.std.specs.Option.{unwrap_or}
 use Rattle.crossbox.specs.declared.Arrival.{Arrival}
 use Rattle.crossbox.specs.declared.Arrival.TheVariants.{Nothing, For}
-use Rattle.buffer.specs.Head.{cell_of}
+use Rattle.places.specs.Head.{cell_of}
 use Rattle.buffer.specs.Memory.{Mem, row_length, head_at, place_at, put, remove}
 use Rattle.words.specs.Lines.{Line, no_line, read_lines, all_fit}
 use Rattle.words.specs.Answer.{Departure}

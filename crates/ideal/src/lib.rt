@@ -9,21 +9,15 @@ ghost use Rattle.ideal.specs.State.{unset, begun};
 ghost use Rattle.ideal.specs.Steps.{Brings, Reads, lines_of, admit_one, admitted, away, turned_away, departing, departed, departure_of, departures, served, leavers, rejects};
 ghost use Rattle.words.specs.Answer.{Written, leaving, leaving_all};
 
-use buffer::{Loan, Memory};
+use buffer::{Loan, Memory, PLACES_A_LINE, ROOM};
 use crossbox::{Arrival, Cell};
 use std::marker::Model;
 use words::{
     ANSWER, ANSWER_BYTES, Answer, BODY, DEPARTURE_BYTES, MOST_LINES, NONE, body_of, read_entry,
 };
 
-// How many cells a queue holds.
-pub const ROOM: usize = 256;
-
 // The entries of rows that the box is lent: 32 queues.
 pub const ENTRIES: usize = 32 * ROOM;
-
-// Places for each line: as many as its queue holds, and one more.
-const PLACES_A_LINE: u16 = 257;
 
 #[derive(Drop)]
 pub struct IdealBox<'a> {

@@ -8,7 +8,7 @@ use Rattle.crossbox.specs.declared.Arrival.TheVariants.{Nothing, For}
 use Rattle.crossbox.specs.declared.Cell.{Cell}
 use Rattle.crossbox.specs.Cells.{Arrivals}
 use Rattle.crossbox.specs.Ideal.{admitted, first, queue, departure, full, rejected}
-use Rattle.buffer.specs.declared.Head.{Head}
+use Rattle.places.specs.declared.Head.{Head}
 use Rattle.buffer.specs.Memory.{Lent, Mem, held_at, enough, fresh}
 use Rattle.buffer.specs.Lent.{lent_to, beyond}
 use Rattle.buffer.proofs.Reset.{reset-row}

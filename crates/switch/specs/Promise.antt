@@ -2,7 +2,7 @@
 use Rattle.std.specs.Prelude.{◌≡◌, ℕ, ◌*◌, ◌<◌, false, cond, ◌==◌, ◌⊎◌, List, [], length, get_or, take, drop, slice_index_or}
 use Rattle.crossbox.specs.declared.Arrival.TheVariants.{For}
 use Rattle.crossbox.specs.Ideal.{rejected}
-use Rattle.buffer.specs.Head.{vacant}
+use Rattle.places.specs.Head.{vacant}
 use Rattle.buffer.specs.Memory.{Lent}
 use Rattle.buffer.specs.Lent.{beyond}
 use Rattle.words.specs.Lines.{Line}

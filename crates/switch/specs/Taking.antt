@@ -3,7 +3,7 @@ use Rattle.std.specs.Prelude.{◌≡◌, ℕ, ◌*◌, ◌<◌, false, ◌⊎◌
 use Rattle.std.specs.List.{range_with_len}
 use Rattle.crossbox.specs.declared.Arrival.TheVariants.{For}
 use Rattle.crossbox.specs.Ideal.{departure, rejected}
-use Rattle.buffer.specs.Head.{vacant}
+use Rattle.places.specs.Head.{vacant}
 use Rattle.buffer.specs.Memory.{Lent}
 use Rattle.buffer.specs.Lent.{beyond}
 use Rattle.words.specs.declared.fault.Fault.{Fault}

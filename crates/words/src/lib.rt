@@ -7,14 +7,13 @@ pub mod read;
 pub mod spelling;
 
 pub use answer::Answer;
+pub use crossbox::BODY;
 pub use fault::Fault;
 pub use read::{Entry, Kind, body_of, judge_lines, read_entry, read_settings};
 pub use spelling::{answers_are_read, lines_are_read_as_spelled, written_lines_are_read};
 
 // The most lines in, and the most lines out.
 pub const MOST_LINES: usize = 32;
-// The bytes that a cell carries.
-pub const BODY: usize = 64;
 // The byte that stands for no cell.
 pub const NONE: u8 = 255;
 // The kinds of words, by their first byte.

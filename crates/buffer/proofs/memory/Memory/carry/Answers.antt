@@ -1,6 +1,6 @@
 use Rattle.std.proofs.Common.{◌+◌, ap, ◌∙◌, arith}
 use Rattle.crossbox.specs.declared.Cell.{Cell}
-use Rattle.buffer.specs.Head.{head_of}
+use Rattle.places.specs.Head.{head_of}
 use Rattle.buffer.specs.Memory.{view}
 use Rattle.buffer.proofs.Safety.{within_rows, place_in, row_end, row_few}
 use Rattle.buffer.proofs.Carry.{rows_kept, carry_exact}

@@ -1,5 +1,5 @@
 use Rattle.std.proofs.Common.{◌≡◌, ◌+◌, ◌-◌, get_or, ap, ◌∙◌, arith}
-use Rattle.buffer.specs.Head.{head_of}
+use Rattle.places.specs.Head.{head_of}
 use Rattle.buffer.specs.Memory.{view}
 use Rattle.buffer.proofs.Safety.{next_in, row_end, row_few}
 use Rattle.buffer.proofs.Exact.{put_exact}
