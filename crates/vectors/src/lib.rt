@@ -1,6 +1,9 @@
 // Streams in files, with what must come of them.
 #![tactic(auto)]
 
+ghost use Rattle.std.specs.Prelude.{◌≡◌, true, IfOk, MatchOption, ⊤};
+ghost use Rattle.vectors.specs.Judging.{AsExpected};
+
 use std::{env, fmt, fs};
 
 // A stream, and what must come of it.
@@ -30,7 +33,9 @@ impl Vector {
         rt: &HostRuntime,
         way: &str,
         came: Result<&[u8], E>,
-    ) -> anyhow::Result<bool> {
+    ) -> anyhow::Result<bool>
+        ensures { IfOk result (λ good. good ≡ true → AsExpected came.entry self.now.expected.items) }
+    {
         let name = &self.name;
         match came.map(|bytes| difference(bytes, &self.expected)) {
             Ok(None) => return Ok(true),
@@ -58,11 +63,12 @@ pub fn check_all<F: FnMut(&Vector) -> anyhow::Result<bool>>(
 }
 
 // The first place where two rows of bytes differ.
-fn difference(a: &[u8], b: &[u8]) -> Option<usize> {
-    let end = if a.len() == b.len() {
-        None
-    } else {
-        Some(a.len().min(b.len()))
-    };
-    a.iter().zip(b).position(|(x, y)| x != y).or(end)
+fn difference(a: &[u8], b: &[u8]) -> Option<usize>
+    ensures { MatchOption result (a.now ≡ b.now) (λ at. ⊤) }
+{
+    if a == b {
+        return None;
+    }
+    let end = a.len().min(b.len());
+    Some(a.iter().zip(b).position(|(x, y)| x != y).unwrap_or(end))
 }
