@@ -51,6 +51,6 @@ count "5e buffer and place in it, side by side" 'at: usize'
 count "5f scratch, buffer and output, side by side" '^ *(buffer|real): &mut \[u8; 2241\],'
 count "6a fixed arrays with a length or a place beside" '&mut \[u8; (2241|ANSWER_BYTES)\]'
 count "7a switches on which step to run" 'match \(?(ready_for|turn_of|form|due)|match \(due|Turn::'
-printf '%-52s %4d\n' "8a answers" "$(find crates -name Answers.antt | xargs grep -hE '^pub ' | wc -l)"
-printf '%-52s %4d\n' "8b lines of proofs" "$(find crates -path '*/proofs/*' -name '*.antt' | xargs cat | wc -l)"
-printf '%-52s %4d\n' "8c lemmas and definitions in proofs, less answers" "$(find crates -path '*/proofs/*' -name '*.antt' ! -name Answers.antt ! -name Invariants.antt | xargs grep -hE '^(abbrev |unfoldable )?pub ' | wc -l)"
+printf '%-52s %4d\n' "8a answers" "$(find crates -name Answers.antt -not -path '*/out/*' | xargs grep -hE '^pub ' | wc -l)"
+printf '%-52s %4d\n' "8b lines of proofs" "$(find crates -path '*/proofs/*' -not -path '*/out/*' -name '*.antt' | xargs cat | wc -l)"
+printf '%-52s %4d\n' "8c lemmas and definitions in proofs, less answers" "$(find crates -path '*/proofs/*' -not -path '*/out/*' -name '*.antt' ! -name Answers.antt ! -name Invariants.antt | xargs grep -hE '^(abbrev |unfoldable )?pub ' | wc -l)"

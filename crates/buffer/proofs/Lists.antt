@@ -1,10 +1,10 @@
 -- Laws of lists that the loops over rows want.
-use Rattle.std.proofs.Common.{◌≡◌, ℕ, zero, suc, ◌+◌, ◌-◌, ◌<◌, List, [], ◌∷◌, ◌++◌, length, get_or, take, drop, set, replicate, sym, refl, ap, ◌∙◌, add-one, arith}
+use Rattle.std.proofs.Common.{◌≡◌, ℕ, ◌+◌, ◌-◌, ◌<◌, List, ◌++◌, length, get_or, take, drop, ap, ◌∙◌, arith}
 use lib.Seq.{paste}
 use Rattle.std.specs.List.{range_with_len}
-use Rattle.std.proofs.lemmas.List.{append-nil, drop_all, take_all, take_more_set, replicate_more, map-id, length-drop}
+use Rattle.std.proofs.lemmas.List.{take_all, map-id, length-drop}
 use Rattle.std.proofs.lemmas.List.FromFn.{fill_by_all}
-use Rattle.buffer.specs.Rows.{moved_up, moved_down}
+use Rattle.buffer.specs.Rows.{moved_down}
 
 pub down_all : (xs ys : List ℕ) → 0 < length xs → ys ≡ paste xs 0 (drop 1 xs) (length xs - 1) → ys ≡ moved_down xs
 down_all xs ys h e =

@@ -8,7 +8,6 @@ use Rattle.crossbox.specs.Box.{Stable, for_output}
 use Rattle.crossbox.specs.Matching.{find}
 use Rattle.crossbox.specs.Promise.{AllFit}
 use Rattle.crossbox.proofs.Promise.{found_in_run, found_in_run_again}
-use Rattle.places.specs.declared.Head.{Head}
 use Rattle.buffer.specs.Memory.{Lent, enough, fresh}
 use Rattle.matching.specs.Table.{shown, ended}
 use Rattle.cioq.specs.State.{State, unset}

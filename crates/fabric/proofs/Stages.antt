@@ -1,7 +1,6 @@
 -- The steps of a slot of the real box, one after the other, each from what the step before it left.
-use Rattle.std.proofs.Common.{◌≡◌, ℕ, zero, suc, ◌+◌, true, List, [], ◌∷◌, ◌++◌, map, length, get_or, Some, None, Option, sym, refl, ap, ◌∙◌, subst, add-one, arith}
+use Rattle.std.proofs.Common.{◌≡◌, ℕ, zero, suc, true, List, ◌++◌, map, get_or, Some, None, Option, sym, refl, ap, ◌∙◌, subst, add-one, arith}
 use Rattle.std.specs.List.{range_with_len}
-use Rattle.std.proofs.lemmas.List.{append-nil}
 use Rattle.std.proofs.lemmas.List.FromFn.{map-range_with_len_more}
 use Rattle.crossbox.specs.declared.Arrival.{Arrival}
 use Rattle.crossbox.specs.declared.Cell.{Cell}
@@ -10,9 +9,7 @@ use Rattle.crossbox.specs.Promise.{Fits}
 use Rattle.crossbox.specs.Shape.{InOrder}
 use Rattle.crossbox.proofs.Shape.{Placed, Directed}
 use Rattle.words.specs.Lines.{Line, no_line}
-use Rattle.words.specs.Writing.{overwrite}
-use Rattle.words.specs.Answer.{Departure, Written, leaving, leaving_all, flag_bytes, answer_bytes}
-use Rattle.words.proofs.Overwrites.{overwrite_then}
+use Rattle.words.specs.Answer.{Departure, leaving, leaving_all}
 use Rattle.words.proofs.Answered.{leaving_push}
 use Rattle.matching.specs.declared.Found.{Found}
 use Rattle.matching.specs.Table.{Finds}

@@ -1,24 +1,18 @@
 -- Each turn of the real box is what `respond` says of the ideal box.
-use Rattle.std.proofs.Common.{◌≡◌, ℕ, ◌*◌, ◌<◌, ◌≤◌, Bool, false, cond, eqb, leb, List, [], drop, Ok, Err, Option, Result, sym, refl, ap, ◌∙◌, subst, inl, inr, ⊎_elim, arith}
-use Rattle.std.proofs.lemmas.Bool.{ne_eqb, cond-false}
+use Rattle.std.proofs.Common.{◌≡◌, ℕ, ◌<◌, ◌≤◌, Bool, false, cond, List, [], Ok, Err, Option, Result, sym, refl, ap, ◌∙◌, subst}
 use Rattle.crossbox.specs.Promise.{AllFit}
-use Rattle.buffer.specs.Memory.{Lent}
-use Rattle.buffer.specs.Lent.{lent_to, beyond}
+use Rattle.buffer.specs.Lent.{lent_to}
 use Rattle.words.specs.declared.fault.Fault.{Fault}
-use Rattle.words.specs.declared.fault.Fault.TheVariants.{Malformed, NoSuchOutput, SlotLimit}
-use Rattle.words.specs.declared.read.Kind.{Kind}
-use Rattle.words.specs.declared.read.Kind.TheVariants.{Settings, Slot, Choice, Unknown}
-use Rattle.words.specs.Kind.{kind_of}
-use Rattle.words.specs.Lines.{Line, settings, judge, judged, verdict}
+use Rattle.words.specs.declared.fault.Fault.TheVariants.{NoSuchOutput}
+use Rattle.words.specs.Lines.{Line, judge, judged, verdict}
 use Rattle.words.proofs.Scans.{verdict_good}
 use Rattle.words.specs.Writing.{Draft}
 use Rattle.cioq.specs.State.{State, Good, begun}
 use Rattle.cioq.specs.Arrivals.{slot_lines, lines_or}
 use Rattle.cioq.proofs.Begun.{begun_good, begun_spells, begun_counts}
 use Rattle.cioq.proofs.Stays.{settings_stay}
-use Rattle.switch.specs.Respond.{Status, SlotIn, body_in, settings_verdict, slot_verdict, on_slot, by_kind, decide}
+use Rattle.switch.specs.Respond.{Status, SlotIn, body_in}
 use Rattle.switch.specs.Respond.Status.{Unset, Running}
-use Rattle.switch.specs.Respond.Verdict.{Refuse, Take}
 use Rattle.switch.specs.Taking.{Begins, Serves}
 use Rattle.fabric.specs.Real.{box_after, Runs, Shows}
 

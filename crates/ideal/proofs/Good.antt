@@ -6,7 +6,6 @@ use Rattle.std.proofs.lemmas.Bool.{cases_Bool, ltb-true, eqb-false}
 use Rattle.crossbox.specs.declared.Arrival.{Arrival}
 use Rattle.crossbox.specs.declared.Arrival.TheVariants.{Nothing, For}
 use Rattle.crossbox.specs.declared.Cell.{Cell}
-use Rattle.places.specs.declared.Head.{Head}
 use Rattle.buffer.specs.Memory.{Lent, Mem, row_length, put, remove, fresh, enough}
 use Rattle.buffer.proofs.Put.{put_sound}
 use Rattle.buffer.proofs.Remove.{remove_sound}

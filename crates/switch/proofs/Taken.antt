@@ -1,12 +1,12 @@
 -- What a box does with a word, as its promise says it.
-use Rattle.std.proofs.Common.{◌≡◌, ℕ, List, [], length, take, drop, Ok, Err, Result, sym, refl, ap, ◌∙◌, subst, inl, inr, ⊎_elim, arith}
+use Rattle.std.proofs.Common.{◌≡◌, ℕ, List, Ok, Err, Result, sym, refl, ap, ◌∙◌, inl, inr, ⊎_elim, arith}
 use Rattle.buffer.specs.Memory.{Lent}
 use Rattle.words.specs.declared.fault.Fault.{Fault}
 use Rattle.words.specs.Writing.{Draft, appended, cleared, refusal_bytes}
 use Rattle.switch.specs.Respond.{Status, Verdict, decide}
 use Rattle.switch.specs.Respond.Status.{Unset, Running}
 use Rattle.switch.specs.Respond.Verdict.{Refuse, Begin, Take}
-use Rattle.switch.specs.Taking.{Takes, Begins, Serves}
+use Rattle.switch.specs.Taking.{Takes}
 use Rattle.switch.proofs.Turning.{Turn, turn_refused, turn_begun, turn_taken}
 
 not_err : (r : Result (Unit {0}) Fault) (fault : Fault) → r ≡ Err fault → r ≡ Ok tt → ⊥

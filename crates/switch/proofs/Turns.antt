@@ -1,37 +1,30 @@
 -- Each turn of the ideal box over lent memory is what `respond` says.
-use Rattle.std.proofs.Common.{◌≡◌, ℕ, ◌+◌, ◌*◌, ◌<◌, ◌≤◌, Bool, true, false, cond, ◌&&◌, eqb, leb, List, [], ◌∷◌, map, length, get_or, take, drop, Some, None, Ok, Err, Option, Result, unwrap_or, sym, refl, ap, ◌∙◌, subst, inl, inr, ⊎_elim, arith}
+use Rattle.std.proofs.Common.{◌≡◌, ℕ, ◌+◌, ◌*◌, ◌<◌, ◌≤◌, Bool, true, false, cond, ◌&&◌, leb, List, [], ◌∷◌, map, length, get_or, Some, None, Ok, Err, Option, Result, unwrap_or, sym, refl, ap, ◌∙◌, subst, inl, inr, ⊎_elim, arith}
 use Rattle.std.specs.List.{range_with_len}
 use Rattle.std.proofs.lemmas.List.{length-map}
-use Rattle.std.proofs.lemmas.Bool.{and_parts, leb-true, ne_eqb, cond-false}
+use Rattle.std.proofs.lemmas.Bool.{and_parts, leb-true}
 use Rattle.crossbox.specs.declared.Arrival.{Arrival}
 use Rattle.crossbox.specs.declared.Arrival.TheVariants.{Nothing, For}
 use Rattle.crossbox.specs.declared.Cell.{Cell}
 use Rattle.crossbox.specs.Cells.{Arrivals}
 use Rattle.crossbox.specs.Ideal.{admitted, first, queue, departure, full, rejected}
-use Rattle.places.specs.declared.Head.{Head}
 use Rattle.buffer.specs.Memory.{Lent, Mem, held_at, enough, fresh}
 use Rattle.buffer.specs.Lent.{lent_to, beyond}
 use Rattle.buffer.proofs.Reset.{reset-row}
 use Rattle.words.specs.declared.fault.Fault.{Fault}
-use Rattle.words.specs.declared.fault.Fault.TheVariants.{Malformed, LineCount, NoSuchOutput, SlotLimit}
-use Rattle.words.specs.declared.read.Kind.{Kind}
-use Rattle.words.specs.declared.read.Kind.TheVariants.{Settings, Slot, Choice, Unknown}
-use Rattle.words.specs.Kind.{kind_of}
+use Rattle.words.specs.declared.fault.Fault.TheVariants.{LineCount, NoSuchOutput}
 use Rattle.words.specs.Lines.{Line, no_line, all_fit, settings, judge, judged, verdict}
 use Rattle.words.specs.Writing.{Draft}
-use Rattle.words.specs.Answer.{Departure, Written, answer_bytes}
+use Rattle.words.specs.Answer.{Departure, Written}
 use Rattle.words.proofs.Scans.{verdict_good}
-use Rattle.words.proofs.Overwrites.{overwrite_front, overwrite-behind}
-use Rattle.words.proofs.Answered.{answer_front, answer-behind}
 use Rattle.ideal.specs.State.{State, Good, begun, unset}
 use Rattle.ideal.specs.Steps.{Reads, admit_all, away, depart_all, departures, served, leavers, rejects}
 use Rattle.ideal.specs.Steps as steps
 use Rattle.ideal.proofs.Good.{with, reads_bring, admit_all_good, depart_all_good, begun_good, unset_good}
 use Rattle.ideal.proofs.Spelled.{Spells, Dresses, full_for, admit_all-spelled, away_all_spelled, departures-spelled, left-spelled}
 use Rattle.ideal.proofs.Kept.{slot_stays, settings_stay, places_kept}
-use Rattle.switch.specs.Respond.{Status, Verdict, SlotIn, arrived, slot_of, with_body, slot_answer, settings_verdict, slot_verdict, on_slot, by_kind, decide, outcome, respond}
+use Rattle.switch.specs.Respond.{Status, SlotIn, arrived, slot_of, with_body}
 use Rattle.switch.specs.Respond.Status.{Unset, Running}
-use Rattle.switch.specs.Respond.Verdict.{Refuse, Begin, Take}
 use Rattle.switch.specs.Best.{dressed, Runs, Shows}
 use Rattle.switch.specs.Taking.{Begins, Serves}
 use Rattle.switch.proofs.History.{counting_alike, body_new, dressed_on, queue-none, queue-more, shown_is}

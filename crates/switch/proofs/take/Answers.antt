@@ -1,4 +1,4 @@
-use Rattle.std.proofs.Common.{sym, ap, subst}
+use Rattle.std.proofs.Common.{ap, subst}
 use Rattle.words.specs.declared.read.Kind.{Kind}
 use Rattle.switch.specs.Respond.{Verdict, by_kind}
 use Rattle.switch.specs.Taking.{Takes}

@@ -1,4 +1,4 @@
-use Rattle.std.proofs.Common.{◌≡◌, arith}
+use Rattle.std.proofs.Common.{arith}
 use Rattle.std.proofs.lemmas.List.Edits.{fill_by_more}
 use Rattle.buffer.proofs.Lists.{number_all}
 use Rattle.buffer.proofs.rows.number.Goals as goal

@@ -4,7 +4,7 @@ use Rattle.words.proofs.Lines.{line_there, line_at}
 use Rattle.ideal.specs.State.{State}
 use Rattle.ideal.specs.Steps.{lines_of, away}
 use Rattle.ideal.proofs.Good.{reads_bring}
-use Rattle.ideal.proofs.Loops.{admitted-none, admitted-more, away_here, good_now, brings_now, flags_more}
+use Rattle.ideal.proofs.Loops.{admitted-none, admitted-more, away_here, brings_now, flags_more}
 use Rattle.ideal.proofs.IdealBox.admit_all.Goals as goal
 
 pub loop-input-init : goal.loop-input-init

@@ -1,5 +1,5 @@
 use Rattle.std.proofs.Common.{arith}
-use Rattle.ideal.proofs.Loops.{departed-none, departures-none, departed-more, departures-more, good_departed}
+use Rattle.ideal.proofs.Loops.{departed-none, departures-none, departed-more, departures-more}
 use Rattle.ideal.proofs.IdealBox.depart_all.Goals as goal
 
 pub loop-output-init : goal.loop-output-init

@@ -4,8 +4,7 @@ use Rattle.words.specs.Answer.{leaving_all, flag_bytes}
 use Rattle.words.proofs.Answered.{answer_written}
 use Rattle.ideal.specs.State.{State}
 use Rattle.ideal.specs.Steps.{lines_of, away, departures, leavers, rejects}
-use Rattle.ideal.proofs.Good.{reads_bring}
-use Rattle.ideal.proofs.Loops.{good_now, flags_all}
+use Rattle.ideal.proofs.Loops.{flags_all}
 use Rattle.ideal.proofs.IdealBox.slot.Goals as goal
 
 pub depart_all-requires : goal.depart_all-requires

@@ -2,8 +2,8 @@ use Rattle.std.proofs.Common.{◌+◌, ap, ◌∙◌, arith}
 use Rattle.crossbox.specs.declared.Cell.{Cell}
 use Rattle.places.specs.Head.{head_of}
 use Rattle.buffer.specs.Memory.{view}
-use Rattle.buffer.proofs.Safety.{within_rows, place_in, row_end, row_few}
-use Rattle.buffer.proofs.Carry.{rows_kept, carry_exact}
+use Rattle.buffer.proofs.Safety.{place_in}
+use Rattle.buffer.proofs.Carry.{carry_exact}
 use Rattle.buffer.proofs.memory.Memory.carry.Goals as goal
 
 pub returns : goal.returns

@@ -1,7 +1,6 @@
-use Rattle.std.proofs.Common.{◌≡◌, ◌+◌, ◌-◌, get_or, ap, ◌∙◌, arith}
+use Rattle.std.proofs.Common.{◌+◌, ap, ◌∙◌, arith}
 use Rattle.places.specs.Head.{head_of}
 use Rattle.buffer.specs.Memory.{view}
-use Rattle.buffer.proofs.Safety.{next_in, row_end, row_few}
 use Rattle.buffer.proofs.Exact.{put_exact}
 use Rattle.buffer.proofs.memory.Memory.put.Goals as goal
 

@@ -1,6 +1,5 @@
 use Rattle.std.proofs.Common.{arith}
 use Rattle.buffer.specs.Memory.{view}
-use Rattle.buffer.proofs.Safety.{within_rows, place_in, row_end, row_few}
 use Rattle.buffer.proofs.Exact.{remove_exact}
 use Rattle.buffer.proofs.memory.Memory.remove.Goals as goal
 
