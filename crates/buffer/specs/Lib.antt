@@ -1,3 +1,4 @@
 pub mod Rows
 pub mod Memory
 pub mod Lent
+pub mod Leaving

@@ -1,11 +1,15 @@
 // The lent memory of a box with ROWS rows of room for ROOM places each.
-ghost use Rattle.std.specs.Prelude.{◌≡◌, ℕ, ◌+◌, ◌-◌, ◌*◌, ◌<◌, ◌≤◌, true, false, [], ◌∷◌, ◌++◌, length, replicate, MatchOption, ◌≢◌, nat_le, slice_index_or};
+ghost use Rattle.std.specs.Prelude.{◌≡◌, ℕ, ◌+◌, ◌-◌, ◌*◌, ◌<◌, ◌≤◌, true, false, [], ◌∷◌, ◌++◌, length, replicate, MatchOption, not, ◌==◌, ◌≢◌, nat_le, slice_index_or};
 ghost use Rattle.places.specs.Head.{cell_of, vacant};
+ghost use Rattle.words.specs.Writing.{appended};
+ghost use Rattle.words.specs.Answer.{leaving};
+ghost use Rattle.buffer.specs.Leaving.{first_of, without_first};
 ghost use Rattle.buffer.specs.Memory.{Mem, view, Sound, lent_by, enough, fresh, put as put_cell, remove as remove_cell, carry as carry_cell, reset as reset_places, place_at, row_length, head_at};
 
 use crate::rows::{move_down, move_up, number, vacate};
 use crate::{BODY, Free, Head, Loan, PLACES};
 use crossbox::Cell;
+use words::{ANSWER_BYTES, Answer, DEPARTURE_BYTES, NONE};
 
 // Whether so many rows of such a room fit a length.
 fn rows_fit(count: usize, room: usize, len: usize) -> bool
@@ -133,6 +137,26 @@ impl<'a, const ROWS: usize, const ROOM: usize> Memory<'a, ROWS, ROOM> {
         let (free, top) = self.free.given();
         self.spare[top] = place;
         self.free = free;
+    }
+
+    // Writes what stands first in a row, or the byte for none, and lets it go; whether a cell left.
+    pub fn leave(&mut self, row: u8, answer: &mut Answer) -> bool
+        requires sound { Sound (view self.old) }
+        requires within { row < ROWS }
+        requires room { answer.old.len + DEPARTURE_BYTES ≤ ANSWER_BYTES }
+        ensures after { view self.new ≡ without_first row (view self.old) }
+        ensures answer { answer.new ≡ appended (leaving (first_of row (view self.old))) answer.old }
+        ensures short { answer.new.len ≤ answer.old.len + DEPARTURE_BYTES }
+        ensures left { result ≡ not (row_length (view self.old) row == 0) }
+    {
+        if self.len(row) == 0 {
+            answer.push(NONE);
+            return false;
+        }
+        let cell = self.cell(row, 0);
+        answer.push_departure(cell, self.body(row, 0));
+        self.remove(row, 0);
+        true
     }
 
     // Carries what stands behind the first k of one row behind the first j of another.

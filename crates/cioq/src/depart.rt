@@ -6,7 +6,7 @@ ghost use Rattle.cioq.specs.State.{Counted};
 ghost use Rattle.cioq.specs.Departures.{depart_one, departure_of, depart_all, departing_bytes};
 
 use crate::RealBox;
-use words::{ANSWER_BYTES, Answer, DEPARTURE_BYTES, NONE};
+use words::{ANSWER_BYTES, Answer, DEPARTURE_BYTES};
 
 impl<'a> RealBox<'a> {
     // Writes what leaves by an output, the first of its store or the byte for none, and lets it go.
@@ -18,15 +18,9 @@ impl<'a> RealBox<'a> {
         ensures answer { answer.new ≡ appended (leaving (departure_of output self.old)) answer.old }
         ensures short { answer.new.len ≤ answer.old.len + DEPARTURE_BYTES }
     {
-        let row = self.lines + output;
-        if self.memory.len(row) == 0 {
-            answer.push(NONE);
-            return;
+        if self.memory.leave(self.lines + output, answer) {
+            self.held[output as usize] -= 1;
         }
-        let cell = self.memory.cell(row, 0);
-        answer.push_departure(cell, self.memory.body(row, 0));
-        self.memory.remove(row, 0);
-        self.held[output as usize] -= 1;
     }
 
     // Writes what leaves by each output, and lets it go.

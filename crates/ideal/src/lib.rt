@@ -12,9 +12,7 @@ ghost use Rattle.words.specs.Answer.{Written, leaving, leaving_all};
 use buffer::{Loan, Memory, PLACES_A_LINE, ROOM};
 use crossbox::{Arrival, Cell};
 use std::marker::Model;
-use words::{
-    ANSWER, ANSWER_BYTES, Answer, BODY, DEPARTURE_BYTES, MOST_LINES, NONE, body_of, read_entry,
-};
+use words::{ANSWER, ANSWER_BYTES, Answer, BODY, DEPARTURE_BYTES, MOST_LINES, body_of, read_entry};
 
 // The entries of rows that the box is lent: 32 queues.
 pub const ENTRIES: usize = 32 * ROOM;
@@ -124,13 +122,7 @@ impl<'a> IdealBox<'a> {
         ensures answer { answer.new ≡ appended (leaving (departure_of output self.old.mem)) answer.old }
         ensures short { answer.new.len ≤ answer.old.len + DEPARTURE_BYTES }
     {
-        if self.memory.len(output) == 0 {
-            answer.push(NONE);
-            return;
-        }
-        let cell = self.memory.cell(output, 0);
-        answer.push_departure(cell, self.memory.body(output, 0));
-        self.memory.remove(output, 0);
+        self.memory.leave(output, answer);
     }
 
     // Writes what leaves by each output, and lets it go.
