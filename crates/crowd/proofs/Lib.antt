@@ -1,6 +1,7 @@
 pub mod Reading
 pub mod Bodies
 pub mod Within
+pub mod Steps
 pub mod Written
 pub mod Turns
 pub mod Shown

@@ -1,14 +1,11 @@
 -- Each turn of the crowd is what `crowd_respond` says, and its answers are those of the ideal box.
-use Rattle.std.proofs.Common.{◌≡◌, ℕ, ◌<◌, ◌≤◌, Bool, true, false, not, ◌&&◌, leb, List, [], ◌∷◌, ◌++◌, map, length, take, drop, None, Ok, Err, Option, Result, sym, refl, ap, ◌∙◌, subst, arith}
+use Rattle.std.proofs.Common.{◌≡◌, ℕ, ◌<◌, ◌≤◌, Bool, true, false, not, leb, List, [], ◌∷◌, ◌++◌, map, length, take, drop, None, Ok, Err, Option, Result, sym, refl, ap, ◌∙◌, subst, arith}
 use Rattle.std.specs.List.{range_with_len}
-use Rattle.std.proofs.lemmas.Bool.{lt-ltb}
 use Rattle.crossbox.specs.declared.Cell.{Cell}
 use Rattle.crossbox.specs.Ideal.{departure, rejected}
 use Rattle.crossbox.specs.Box.{Box, Run, begin, Stable, empty, transfer, depart, room_for}
 use Rattle.crossbox.specs.Box as model
-use Rattle.crossbox.specs.Promise.{AllFit}
 use Rattle.crossbox.proofs.Runs.{same-departures, same-rejected}
-use Rattle.ideal.proofs.Loops.{flags_all}
 use Rattle.words.specs.declared.fault.Fault.{Fault}
 use Rattle.words.specs.declared.fault.Fault.TheVariants.{Malformed}
 use Rattle.words.specs.declared.read.Kind.{Kind}
@@ -20,12 +17,10 @@ use Rattle.words.specs.Answer.{Departure, flag_bytes, answer_bytes}
 use Rattle.switch.proofs.Turning.{written_front}
 use Rattle.words.proofs.Answered.{answer_front, answer-behind}
 use Rattle.cioq.specs.State.{begun}
-use Rattle.cioq.specs.State as real
 use Rattle.cioq.specs.Spells.{box_of}
 use Rattle.cioq.specs.Arrivals.{arrivals_of, away}
 use Rattle.cioq.specs.Choice.{picks, judge_choice}
-use Rattle.cioq.proofs.Begun.{begun_good, begun_spells, begun_counts}
-use Rattle.cioq.proofs.Judged.{judged_stable, judged-spelled}
+use Rattle.cioq.proofs.Judged.{judged_stable}
 use Rattle.switch.specs.Respond.{SlotIn, arrived, body_in, slot_of, with_body, slot_answer}
 use Rattle.switch.specs.Respond as ideal
 use Rattle.switch.proofs.History.{counting_alike}
@@ -34,22 +29,16 @@ use Rattle.crowd.specs.declared.Due.TheVariants as due
 use Rattle.crowd.specs.declared.Turn.{Turn}
 use Rattle.crowd.specs.declared.Turn.TheVariants as turn
 use Rattle.crowd.specs.Crowd.{Status, Verdict, due_of, turn_of, turns_away, choice_answer, settings_verdict, slot_verdict, test_verdict, choice_verdict, by_turn, decide, outcome, crowd_respond}
-use Rattle.crowd.specs.Crowd.Status.{Unset, SlotDue, FirstDue, SecondDue}
+use Rattle.crowd.specs.Crowd.Status.{SlotDue, FirstDue, SecondDue}
 use Rattle.crowd.specs.Crowd.Verdict.{Refuse, Begin, Take, Choose}
 use Rattle.crowd.specs.State.{State, Holds, Arrived, arrives, Shows, Refused, Settled, Taken, Slotted, First, Second, Tried, Chosen, chosen, departures_of}
-use Rattle.crowd.specs.Promise.{Answers, Keeps, TurnDone, SameAnswer, SameAsIdeal}
+use Rattle.crowd.specs.Promise.{Answers, TurnDone, SameAnswer, SameAsIdeal}
 use Rattle.crowd.proofs.Reading.{judge_ok, lines_fit, settings_range}
-use Rattle.crowd.proofs.Within.{run_placed, arrived_placed, departed_placed, arrive_holds, arrive-away, choice_stable, transfer_holds, depart_holds, depart_bytes, next_rising, next-departed, next-run, shows_good}
-
--- what is due is what the status says
-due_is : (s : State) (st : Status) → Shows s st → s.due ≡ due_of st
-due_is s Unset h = h.1
-due_is s (SlotDue n past b) h = h.1
-due_is s (FirstDue n past b flags) h = h.1
-due_is s (SecondDue n past b) h = h.1
+use Rattle.crowd.proofs.Steps.{due_is, slot_due, first_due, second_due, begun_shows, taken_shows, over_holds, over_rises, first_shows, second_shows, spelled_test}
+use Rattle.crowd.proofs.Within.{arrived_placed, depart_bytes, shows_good}
 
 -- what has to be due for a turn
-abbrev pub DueFor : Turn → Due → Type 0
+abbrev DueFor : Turn → Due → Type 0
 DueFor turn.Settings d = Unit {0}
 DueFor turn.Slot d = d ≡ due.Slot
 DueFor turn.First d = d ≡ due.First
@@ -68,9 +57,13 @@ due_for due.First kind.Choice = refl
 due_for due.Second kind.Choice = refl
 due_for d kind.Unknown = tt
 
+due_in : (d : Due) (word : List ℕ) (x : Turn) → turn_of d (kind_of word) ≡ x → DueFor x d
+due_in d word x e = subst (λ (t : Turn). DueFor t d) e (due_for d (kind_of word))
+
 -- the turn of a word whose kind is known
-pub turn_of_lem : (d : Due) (k : Kind) (word : List ℕ) (x : Turn) → x ≡ turn_of d k → k ≡ kind_of word → turn_of d (kind_of word) ≡ x
-turn_of_lem d k word x e q = ap (λ (z : Kind). turn_of d z) (sym q) ∙ sym e
+pub turn_of_lem : (s was : State) (k : Kind) (word : List ℕ) (x : Turn) → was ≡ s → x ≡ turn_of was.due k → k ≡ kind_of word → turn_of s.due (kind_of word) ≡ x
+turn_of_lem s was k word x v e q =
+    ap (λ (z : Kind). turn_of s.due z) (sym q) ∙ sym (e ∙ ap (λ (z : State). turn_of z.due k) v)
 
 -- a status in a turn
 module _ (s : State) (st : Status) (word : List ℕ) (h : Shows s st) (x : Turn) (e : turn_of s.due (kind_of word) ≡ x) where
@@ -79,9 +72,6 @@ module _ (s : State) (st : Status) (word : List ℕ) (h : Shows s st) (x : Turn)
 
   pub decide_is : decide st word ≡ by_turn st x word
   decide_is = ap (λ (t : Turn). by_turn st t word) turn_is
-
-  pub due_there : DueFor x (due_of st)
-  due_there = subst (λ (t : Turn). DueFor t (due_of st)) turn_is (due_for (due_of st) (kind_of word))
 
 no_refusal : (v w : Verdict) (fault : Fault) → ((f : Fault) → w ≡ Refuse f → ⊥) → v ≡ w → v ≡ Refuse fault → ⊥
 no_refusal v w fault ne p q = ne fault (sym p ∙ q)
@@ -109,30 +99,13 @@ module _ (s after : State) (st : Status) (word : List ℕ) (out written : Draft)
       }
 
   begun_turn : (n : ℕ) → decide st word ≡ Begin n → 0 < n → n ≤ 32 → after ≡ record { real = begun n s.real; due = due.Slot; away = s.away } → written ≡ cleared out → TurnDone s after st word out written
-  unfolding AllFit
   begun_turn n e pos few f o =
       let a : crowd_respond st word ≡ (SlotDue n [] empty, []) = ap (λ (v : Verdict). outcome st v) e in
       record {
         answers = silent st (SlotDue n [] empty) word out written a o;
-        goes = subst (λ (x : Status). Shows after x) (sym (ap (λ x. x.0) a)) (subst (λ (x : State). Shows x (SlotDue n [] empty)) (sym f) begun_shows);
+        goes = subst (λ (x : Status). Shows after x) (sym (ap (λ x. x.0) a)) (subst (λ (x : State). Shows x (SlotDue n [] empty)) (sym f) (begun_shows s n (shows_good s st h) pos few));
         keeps = λ fault q. absurd (no_refusal (decide st word) (Begin n) fault (λ f p. let z : ◌≡◌ {A = ℕ} 0 1 = cc in omega arith) e q);
       }
-    where
-      begun_shows : Shows (record { real = begun n s.real; due = due.Slot; away = s.away }) (SlotDue n [] empty)
-      begun_shows =
-          let g = shows_good s st h in (
-            record {
-              good = begun_good s.real n g few;
-              set = pos;
-              lines = refl;
-              slots = refl;
-              fit = tt;
-              spells = begun_spells s.real n g few (body_in []);
-              counts = begun_counts s.real n g few;
-            },
-            refl,
-            begin,
-          )
 
   pub settled_turn : turn_of s.due (kind_of word) ≡ turn.Settings → Settled (settings word) s after out written → TurnDone s after st word out written
   settled_turn k d = go (settings word) refl d
@@ -163,11 +136,9 @@ module _ (s after : State) (past : List SlotIn) (b : Box) (word : List ℕ) (out
       let next = FirstDue n (slot_of ls ∷ past) (model.arrived 256 n (arrived past) (arrivals_of ls) b) (turns_away n b (arrivals_of ls)) in
       let a : crowd_respond (SlotDue n past b) word ≡ (next, []) = ap (λ (x : Verdict). outcome (SlotDue n past b) x) v in
       let j = judge_ok n 64 (leb 4294967296 s.real.slots) (drop 1 word) ls e in
-      let p = run_placed n past b h.2 in
-      let flags : take n after.away ≡ turns_away n b (arrivals_of ls) = flags_all (λ i. not (room_for 256 n i (arrivals_of ls) b (arrivals_of ls i))) after.away n d.inputs h.0.good.few (λ i l. d.flags i (omega (arith, h.0.good.few)) ∙ (ap (λ (t : Bool). t && away ls s.real i) (lt-ltb i n l) ∙ arrive-away s.real past b h.0 p (drop 1 word) ls j.0 j.1 i l)) in
       record {
         answers = silent (SlotDue n past b) next word out written a d.silent;
-        goes = subst (λ (x : Status). Shows after x) (sym (ap (λ x. x.0) a)) (subst (λ (x : real.State). Holds x n (slot_of ls ∷ past) (model.arrived 256 n (arrived past) (arrivals_of ls) b)) (sym d.box) (arrive_holds s.real past b h.0 p (drop 1 word) ls j.0 j.1), d.next, arrives (slot_of ls) h.2, flags);
+        goes = subst (λ (x : Status). Shows after x) (sym (ap (λ x. x.0) a)) (taken_shows s after past b (drop 1 word) ls out written h j.0 j.1 d);
         keeps = λ fault q. absurd (no_refusal (decide (SlotDue n past b) word) (Take ls) fault (λ f p. let z : ◌≡◌ {A = ℕ} 0 1 = cc in omega arith) v q);
       }
 
@@ -177,10 +148,6 @@ module _ (s after : State) (past : List SlotIn) (b : Box) (word : List ℕ) (out
       go : (v : Result (List Line) Fault) → judge n 64 (leb 4294967296 s.real.slots) (drop 1 word) ≡ v → Slotted v s after out written → TurnDone s after (SlotDue n past b) word out written
       go (Err fault) e d = refused_turn s after (SlotDue n past b) word out written h fault (slot_verdict_lem (Err fault) e) d
       go (Ok ls) e d = taken_turn ls e d
-
--- a choice that is tested over memory is tested over the box that memory spells
-spelled_test : (s : State) (past : List SlotIn) (b : Box) → Holds s.real s.real.lines past b → (ls : List Line) → judge_choice s.real.lines (arrivals_of ls) (box_of s.real.lines s.real.mem) ≡ judge_choice s.real.lines (arrivals_of ls) b
-spelled_test s past b h ls = judged-spelled (body_in past) s.real.lines s.real.mem b (arrivals_of ls) h.spells
 
 -- a choice word, taken or refused
 module _ (s : State) (st : Status) (past : List SlotIn) (b : Box) (word : List ℕ) (h : Holds s.real s.real.lines past b)
@@ -192,10 +159,10 @@ module _ (s : State) (st : Status) (past : List SlotIn) (b : Box) (word : List �
 
   tried : (ls : List Line) → judge lines 0 false (drop 1 word) ≡ Ok ls → (v : Result (Unit {0}) Fault) → judge_choice lines (arrivals_of ls) (box_of lines s.real.mem) ≡ v → Tried done refused ls v → X
   tried ls e (Ok u) t d =
-      let q = sym (spelled_test s past b h ls) ∙ t in
+      let q = sym (spelled_test s past b h (arrivals_of ls)) ∙ t in
       taken ls (decided ∙ (ap (λ (v : Result (List Line) Fault). choice_verdict lines b v) e ∙ ap (λ (v : Result (Unit {0}) Fault). test_verdict ls v) q)) e (sym q) d
   tried ls e (Err fault) t d =
-      let q = sym (spelled_test s past b h ls) ∙ t in
+      let q = sym (spelled_test s past b h (arrivals_of ls)) ∙ t in
       left fault (decided ∙ (ap (λ (v : Result (List Line) Fault). choice_verdict lines b v) e ∙ ap (λ (v : Result (Unit {0}) Fault). test_verdict ls v) q)) d
 
   chosen-cases : Chosen done refused s (judge lines 0 false (drop 1 word)) → X
@@ -215,10 +182,8 @@ module _ (s after : State) (past : List SlotIn) (b : Box) (away : List Bool) (wo
       let ms = picks m (arrivals_of ls) b in
       let j = judge_ok m 0 false (drop 1 word) ls e in
       let fits = lines_fit m 0 (drop 1 word) ls j.0 j.1 in
-      let p = arrived_placed m h.2 in
-      let stable = choice_stable s.real past b (length (arrived past)) (arrivals_of ls) h.0 p fits ok in
-      let up = next_rising m ms h.2 stable in
-      let over = transfer_holds s.real past b (length (arrived past)) (arrivals_of ls) h.0 p fits ok in
+      let over = over_holds s past b away (arrivals_of ls) h fits ok in
+      let up = over_rises s past b away (arrivals_of ls) h fits ok in
       let next = SecondDue m past (depart (transfer ms b)) in
       let a : crowd_respond (FirstDue m past b away) word ≡ (next, choice_answer m past (transfer ms b) away) = ap (λ (x : Verdict). outcome (FirstDue m past b away) x) v in
       let ds = departures_of m (chosen ls s) in
@@ -226,7 +191,7 @@ module _ (s after : State) (past : List SlotIn) (b : Box) (away : List Bool) (wo
       let bytes : answer_bytes ds fs ≡ choice_answer m past (transfer ms b) away = ap (λ (bs : List ℕ). 3 ∷ (bs ++ flag_bytes fs)) (depart_bytes (chosen ls s) m past (transfer ms b) over up) ∙ ap (λ (f : List Bool). answer_bytes (map (λ o. with_body past (model.departs o (transfer ms b))) (range_with_len 0 m)) f) h.3 in
       record {
         answers = record { size = d.answer.next ∙ (ap (λ (xs : List ℕ). length xs) bytes ∙ sym (ap (λ x. length x.1) a)); bytes = answer_front out.bytes written.bytes written.len ds fs d.answer ∙ (bytes ∙ sym (ap (λ x. x.1) a)); rest = answer-behind out.bytes written.bytes written.len ds fs d.answer };
-        goes = subst (λ (x : Status). Shows after x) (sym (ap (λ x. x.0) a)) (subst (λ (x : State). Shows x next) (sym d.box) (depart_holds (chosen ls s) m past (transfer ms b) over up, refl, next-departed m ms h.2 stable));
+        goes = subst (λ (x : Status). Shows after x) (sym (ap (λ x. x.0) a)) (subst (λ (x : State). Shows x next) (sym d.box) (first_shows s past b away (arrivals_of ls) h fits ok));
         keeps = λ fault q. absurd (no_refusal (decide (FirstDue m past b away) word) (Choose ls) fault (λ f p. let z : ◌≡◌ {A = ℕ} 0 1 = cc in omega arith) v q);
       }
 
@@ -244,12 +209,11 @@ module _ (s after : State) (past : List SlotIn) (b : Box) (word : List ℕ) (out
       let ms = picks l (arrivals_of ls) b in
       let j = judge_ok l 0 false (drop 1 word) ls e in
       let fits = lines_fit l 0 (drop 1 word) ls j.0 j.1 in
-      let p = departed_placed l h.2 in
       let next = SlotDue l past (transfer ms b) in
       let a : crowd_respond (SecondDue l past b) word ≡ (next, []) = ap (λ (x : Verdict). outcome (SecondDue l past b) x) v in
       record {
         answers = silent (SecondDue l past b) next word out written a d.silent;
-        goes = subst (λ (x : Status). Shows after x) (sym (ap (λ x. x.0) a)) (subst (λ (x : State). Shows x next) (sym d.box) (transfer_holds s.real past b (length (arrived past)) (arrivals_of ls) h.0 p fits ok, refl, next-run l ms h.2 (choice_stable s.real past b (length (arrived past)) (arrivals_of ls) h.0 p fits ok)));
+        goes = subst (λ (x : Status). Shows after x) (sym (ap (λ x. x.0) a)) (subst (λ (x : State). Shows x next) (sym d.box) (second_shows s past b (arrivals_of ls) h fits ok));
         keeps = λ fault q. absurd (no_refusal (decide (SecondDue l past b) word) (Choose ls) fault (λ f p. let z : ◌≡◌ {A = ℕ} 0 1 = cc in omega arith) v q);
       }
 
@@ -259,30 +223,24 @@ module _ (s after : State) (past : List SlotIn) (b : Box) (word : List ℕ) (out
 
 -- for every status
 
-module _ (s after : State) (word : List ℕ) (out written : Draft) where
-  pub slotted_turn : (st : Status) → Shows s st → turn_of s.due (kind_of word) ≡ turn.Slot → Slotted (judge s.real.lines 64 (leb 4294967296 s.real.slots) (drop 1 word)) s after out written → TurnDone s after st word out written
-  slotted_turn Unset h k d = absurd (let e = due_there s Unset word h turn.Slot k in let z : ◌≡◌ {A = ℕ} 0 1 = cc in omega arith)
-  slotted_turn (FirstDue n past b away) h k d = absurd (let e = due_there s (FirstDue n past b away) word h turn.Slot k in let z : ◌≡◌ {A = ℕ} 0 1 = cc in omega arith)
-  slotted_turn (SecondDue n past b) h k d = absurd (let e = due_there s (SecondDue n past b) word h turn.Slot k in let z : ◌≡◌ {A = ℕ} 0 1 = cc in omega arith)
-  slotted_turn (SlotDue n past b) h k d =
-      subst (λ (x : ℕ). TurnDone s after (SlotDue x past b) word out written) h.0.lines
-      (slot_turn_lem s after past b word out written (subst (λ (x : ℕ). Shows s (SlotDue x past b)) (sym h.0.lines) h) k d)
+module _ (s after : State) (st : Status) (word : List ℕ) (out written : Draft) (h : Shows s st) where
+  pub slotted_turn : turn_of s.due (kind_of word) ≡ turn.Slot → Slotted (judge s.real.lines 64 (leb 4294967296 s.real.slots) (drop 1 word)) s after out written → TurnDone s after st word out written
+  slotted_turn k d =
+      let w = slot_due s st h (due_in s.due word turn.Slot k) in
+      subst (λ (x : Status). TurnDone s after x word out written) (sym w.2)
+      (slot_turn_lem s after w.0 w.1 word out written (subst (Shows s) w.2 h) k d)
 
-  pub chosen-first_turn : (st : Status) → Shows s st → turn_of s.due (kind_of word) ≡ turn.First → Chosen (λ ls. First ls s after out written) (λ fault. Refused fault s after out written) s (judge s.real.lines 0 false (drop 1 word)) → TurnDone s after st word out written
-  chosen-first_turn Unset h k d = absurd (let e = due_there s Unset word h turn.First k in let z : ◌≡◌ {A = ℕ} 0 1 = cc in omega arith)
-  chosen-first_turn (SlotDue n past b) h k d = absurd (let e = due_there s (SlotDue n past b) word h turn.First k in let z : ◌≡◌ {A = ℕ} 0 1 = cc in omega arith)
-  chosen-first_turn (SecondDue n past b) h k d = absurd (let e = due_there s (SecondDue n past b) word h turn.First k in let z : ◌≡◌ {A = ℕ} 0 1 = cc in omega arith)
-  chosen-first_turn (FirstDue n past b away) h k d =
-      subst (λ (x : ℕ). TurnDone s after (FirstDue x past b away) word out written) h.0.lines
-      (first_turn s after past b away word out written (subst (λ (x : ℕ). Shows s (FirstDue x past b away)) (sym h.0.lines) h) k d)
+  pub chosen-first_turn : turn_of s.due (kind_of word) ≡ turn.First → Chosen (λ ls. First ls s after out written) (λ fault. Refused fault s after out written) s (judge s.real.lines 0 false (drop 1 word)) → TurnDone s after st word out written
+  chosen-first_turn k d =
+      let w = first_due s st h (due_in s.due word turn.First k) in
+      subst (λ (x : Status). TurnDone s after x word out written) (sym w.3)
+      (first_turn s after w.0 w.1 w.2 word out written (subst (Shows s) w.3 h) k d)
 
-  pub chosen_second_turn : (st : Status) → Shows s st → turn_of s.due (kind_of word) ≡ turn.Second → Chosen (λ ls. Second ls s after out written) (λ fault. Refused fault s after out written) s (judge s.real.lines 0 false (drop 1 word)) → TurnDone s after st word out written
-  chosen_second_turn Unset h k d = absurd (let e = due_there s Unset word h turn.Second k in let z : ◌≡◌ {A = ℕ} 0 1 = cc in omega arith)
-  chosen_second_turn (SlotDue n past b) h k d = absurd (let e = due_there s (SlotDue n past b) word h turn.Second k in let z : ◌≡◌ {A = ℕ} 0 1 = cc in omega arith)
-  chosen_second_turn (FirstDue n past b away) h k d = absurd (let e = due_there s (FirstDue n past b away) word h turn.Second k in let z : ◌≡◌ {A = ℕ} 0 1 = cc in omega arith)
-  chosen_second_turn (SecondDue n past b) h k d =
-      subst (λ (x : ℕ). TurnDone s after (SecondDue x past b) word out written) h.0.lines
-      (second_turn s after past b word out written (subst (λ (x : ℕ). Shows s (SecondDue x past b)) (sym h.0.lines) h) k d)
+  pub chosen_second_turn : turn_of s.due (kind_of word) ≡ turn.Second → Chosen (λ ls. Second ls s after out written) (λ fault. Refused fault s after out written) s (judge s.real.lines 0 false (drop 1 word)) → TurnDone s after st word out written
+  chosen_second_turn k d =
+      let w = second_due s st h (due_in s.due word turn.Second k) in
+      subst (λ (x : Status). TurnDone s after x word out written) (sym w.2)
+      (second_turn s after w.0 w.1 word out written (subst (Shows s) w.2 h) k d)
 
 -- the promise
 

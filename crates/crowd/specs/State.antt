@@ -17,7 +17,6 @@ use Rattle.cioq.specs.Choice.{choice_of, judge_choice}
 use Rattle.cioq.specs.Transfers.{transfer_all}
 use Rattle.cioq.specs.Departures.{depart_all, departure_of}
 use Rattle.switch.specs.Respond.{SlotIn, arrived, body_in}
-use Rattle.crowd.specs.declared.Crowd.{Crowd}
 use Rattle.crowd.specs.declared.Due.{Due}
 use Rattle.crowd.specs.declared.Due.TheVariants as due
 use Rattle.crowd.specs.Crowd.{Status, turns_away}
@@ -29,8 +28,9 @@ pub record State : Type 0 where
   pub due : Due
   pub away : List Bool
 
-abbrev pub state : Crowd → State
-state c = record { real = c.real; due = c.due; away = c.away }
+-- a crowd of these parts
+abbrev pub seen : real.State → Due → List Bool → State
+seen box d flags = record { real = box; due = d; away = flags }
 
 -- memory spells a box of n lines after these slots, each cell with the bytes with which it came
 pub record Holds (s : real.State) (n : ℕ) (past : List SlotIn) (b : Box) : Type 0 where

@@ -8,11 +8,12 @@ ghost use Rattle.words.specs.Lines.{Line, settings, judge, verdict};
 ghost use Rattle.cioq.specs.Arrivals.{arrivals_of};
 ghost use Rattle.cioq.specs.Choice.{choice_of};
 ghost use Rattle.switch.specs.Respond.{SlotIn, slot_answer};
+ghost use Rattle.crowd.specs.declared.Due.TheVariants as due;
 ghost use Rattle.crowd.specs.Crowd.{Status, turn_of, decide, crowd_respond};
 ghost use Rattle.crowd.specs.Crowd.Status.{Unset, FirstDue};
 ghost use Rattle.crowd.specs.Crowd.Verdict.{Choose};
 ghost use Rattle.words.specs.Writing.{Draft};
-ghost use Rattle.crowd.specs.State.{state, Shows, Told, Settled, Slotted, choice_lines, Choosing, Chosen, First, Second, Refused};
+ghost use Rattle.crowd.specs.State.{Shows, Told, Settled, Slotted, choice_lines, Choosing, Chosen, First, Second, Refused};
 ghost use Rattle.crowd.specs.Promise.{Answers, Keeps, TurnDone, SameAnswer, SameAsIdeal};
 
 mod print;
@@ -21,6 +22,7 @@ use buffer::Loan;
 use cioq::RealBox;
 use crossbox::Arrival;
 pub use print::{Part, differs, next_part};
+use std::marker::Model;
 use words::{
     ANSWER, Answer, BODY, Fault, Kind, SLOT_LIMIT, judge_lines, read_entry, read_settings,
 };
@@ -52,6 +54,18 @@ pub struct Crowd<'a> {
     real: RealBox<'a>,
     due: Due,
     away: [bool; 32],
+}
+
+// Contracts see its real box, what is due, and what the slot turned away. It always shows some status.
+impl<'a> Model for Crowd<'a> {
+    ghost use Rattle.crowd.specs.Crowd.{Status};
+    ghost use Rattle.crowd.specs.State.{State, seen, Shows};
+
+    ghost Value = { State };
+
+    ghost view = { λ c. seen c.real c.due c.away };
+
+    ghost invariant = { λ c. (st : Status) × Shows (seen c.real c.due c.away) st };
 }
 
 // What a word of a kind is to be taken for.
@@ -93,7 +107,7 @@ fn read_choice(lines: u8, bytes: &[u8]) -> [Arrival; 32]
 impl<'a> Crowd<'a> {
     // A crowd over what the caller lends, with no lines yet; None where that is too little.
     pub fn new(loan: Loan<'a>) -> Option<Crowd<'a>>
-        ensures { MatchOption result (enough 64 8224 (lent_by loan.entry) ≡ false) (λ c. (enough 64 8224 (lent_by loan.entry) ≡ true) × Shows (state c) Unset) }
+        ensures { MatchOption result (enough 64 8224 (lent_by loan.entry) ≡ false) (λ c. (enough 64 8224 (lent_by loan.entry) ≡ true) × Shows c Unset) }
     {
         let real = RealBox::new(loan)?;
         Some(Crowd {
@@ -105,8 +119,7 @@ impl<'a> Crowd<'a> {
 
     // Takes a settings word.
     fn take_settings(&mut self, word: &[u8], answer: &mut Answer) -> Result<(), Fault>
-        requires { (st : Status) × Shows (state self.old) st }
-        ensures { (told : Draft) → Told result answer.new told → Settled (settings word.now) (state self.old) (state self.new) answer.old told }
+        ensures { (told : Draft) → Told result answer.new told → Settled (settings word.now) self.old self.new answer.old told }
     {
         let lines = read_settings(word)?;
         self.real.begin(lines);
@@ -117,8 +130,8 @@ impl<'a> Crowd<'a> {
 
     // Takes the lines of a slot word: its cells arrive.
     fn take_slot(&mut self, lines: &[u8], answer: &mut Answer) -> Result<(), Fault>
-        requires { (st : Status) × Shows (state self.old) st }
-        ensures { (told : Draft) → Told result answer.new told → Slotted (judge (state self.old).real.lines 64 (nat_le 4294967296 (state self.old).real.slots) lines.now) (state self.old) (state self.new) answer.old told }
+        requires { self.old.due ≡ due.Slot }
+        ensures { (told : Draft) → Told result answer.new told → Slotted (judge self.old.real.lines 64 (nat_le 4294967296 self.old.real.slots) lines.now) self.old self.new answer.old told }
     {
         let late = self.real.slots() >= SLOT_LIMIT;
         judge_lines(self.real.lines(), BODY, late, lines)?;
@@ -131,8 +144,7 @@ impl<'a> Crowd<'a> {
 
     // The choice of a word, or its lowest fault.
     fn choose(&self, lines: &[u8]) -> Result<[Arrival; 32], Fault>
-        requires { (st : Status) × Shows (state self.now) st }
-        ensures { Choosing (state self.now) lines.now result }
+        ensures { Choosing self.now lines.now result }
     {
         judge_lines(self.real.lines(), NO_BODY, false, lines)?;
         let choice = read_choice(self.real.lines(), lines);
@@ -142,8 +154,8 @@ impl<'a> Crowd<'a> {
 
     // Takes the lines of a first choice: its cells are transferred, and the earliest depart.
     fn take_first(&mut self, lines: &[u8], answer: &mut Answer) -> Result<(), Fault>
-        requires { (st : Status) × Shows (state self.old) st }
-        ensures { (told : Draft) → Told result answer.new told → Chosen (λ ls. First ls (state self.old) (state self.new) answer.old told) (λ fault. Refused fault (state self.old) (state self.new) answer.old told) (state self.old) (judge (state self.old).real.lines 0 false lines.now) }
+        requires { self.old.due ≡ due.First }
+        ensures { (told : Draft) → Told result answer.new told → Chosen (λ ls. First ls self.old self.new answer.old told) (λ fault. Refused fault self.old self.new answer.old told) self.old (judge self.old.real.lines 0 false lines.now) }
     {
         let inputs = self.real.lines() as usize;
         let choice = self.choose(lines)?;
@@ -157,8 +169,8 @@ impl<'a> Crowd<'a> {
 
     // Takes the lines of a second choice: its cells are transferred.
     fn take_second(&mut self, lines: &[u8], answer: &mut Answer) -> Result<(), Fault>
-        requires { (st : Status) × Shows (state self.old) st }
-        ensures { (told : Draft) → Told result answer.new told → Chosen (λ ls. Second ls (state self.old) (state self.new) answer.old told) (λ fault. Refused fault (state self.old) (state self.new) answer.old told) (state self.old) (judge (state self.old).real.lines 0 false lines.now) }
+        requires { self.old.due ≡ due.Second }
+        ensures { (told : Draft) → Told result answer.new told → Chosen (λ ls. Second ls self.old self.new answer.old told) (λ fault. Refused fault self.old self.new answer.old told) self.old (judge self.old.real.lines 0 false lines.now) }
     {
         let choice = self.choose(lines)?;
         self.real.transfer(&choice);
@@ -169,8 +181,7 @@ impl<'a> Crowd<'a> {
 
     // Takes a word; a refusal is left to be written.
     fn take(&mut self, word: &[u8], answer: &mut Answer) -> Result<(), Fault>
-        requires { (st : Status) × Shows (state self.old) st }
-        ensures { (told : Draft) → Told result answer.new told → (st : Status) → Shows (state self.old) st → TurnDone (state self.old) (state self.new) st word.now answer.old told }
+        ensures { (told : Draft) → Told result answer.new told → (st : Status) → Shows self.old st → TurnDone self.old self.new st word.now answer.old told }
     {
         match turn_of(self.due, Kind::of(word)) {
             Turn::Settings => self.take_settings(word, answer),
@@ -183,11 +194,10 @@ impl<'a> Crowd<'a> {
 
     // Takes a word, and writes its answer.
     pub fn answer(&mut self, word: &[u8], answer: &mut Answer)
-        requires { (st : Status) × Shows (state self.old) st }
-        ensures answers { (st : Status) → Shows (state self.old) st → Answers st word.now answer.old answer.new }
-        ensures goes_on { (st : Status) → Shows (state self.old) st → Shows (state self.new) (crowd_respond st word.now).0 }
-        ensures keeps { (st : Status) → Shows (state self.old) st → Keeps st word.now (state self.old) (state self.new) }
-        ensures same { (n : ℕ) (s : SlotIn) (past : List SlotIn) (b : Box) (away : List Bool) → Shows (state self.old) (FirstDue n (s ∷ past) b away) → (ls : List Line) → decide (FirstDue n (s ∷ past) b away) word.now ≡ Choose ls → take answer.new.len answer.new.bytes ≡ slot_answer n past s }
+        ensures answers { (st : Status) → Shows self.old st → Answers st word.now answer.old answer.new }
+        ensures goes_on { (st : Status) → Shows self.old st → Shows self.new (crowd_respond st word.now).0 }
+        ensures keeps { (st : Status) → Shows self.old st → Keeps st word.now self.old self.new }
+        ensures same { (n : ℕ) (s : SlotIn) (past : List SlotIn) (b : Box) (away : List Bool) → Shows self.old (FirstDue n (s ∷ past) b away) → (ls : List Line) → decide (FirstDue n (s ∷ past) b away) word.now ≡ Choose ls → take answer.new.len answer.new.bytes ≡ slot_answer n past s }
     {
         if let Err(fault) = self.take(word, answer) {
             answer.refuse(fault);

@@ -5,7 +5,7 @@ ghost use Rattle.words.specs.Lines.{Line, judge};
 ghost use Rattle.cioq.specs.Arrivals.{arrivals_of};
 ghost use Rattle.cioq.specs.Choice.{choice_of, named, judge_choice};
 ghost use Rattle.crowd.specs.Crowd.{Status, lines_of, box_in, due_of};
-ghost use Rattle.crowd.specs.State.{state, Shows};
+ghost use Rattle.crowd.specs.State.{Shows};
 ghost use Rattle.crowd.specs.Parts.{part_size, part, behind, part_of};
 
 use crate::{Crowd, Due};
@@ -15,21 +15,22 @@ use words::{DEPARTURE_BYTES, NONE};
 impl<'a> Crowd<'a> {
     // How many lines there are; 0 before the first settings.
     pub fn lines(&self) -> u8
-        ensures { result ≡ (state self.now).real.lines }
+        ensures { result ≡ self.now.real.lines }
     {
         self.real.lines()
     }
 
     // How many slots there were since the settings.
     pub fn slots(&self) -> u64
-        ensures { result ≡ (state self.now).real.slots }
+        ensures { result ≡ self.now.real.slots }
     {
         self.real.slots()
     }
 
     // What is due.
     pub fn due(&self) -> Due
-        ensures { (st : Status) → Shows (state self.now) st → result ≡ due_of st }
+        ensures due { (st : Status) → Shows self.now st → result ≡ due_of st }
+        ensures shown { (st : Status) × Shows self.now st }
     {
         self.due
     }
@@ -37,54 +38,49 @@ impl<'a> Crowd<'a> {
     // Whether the slot turned away the cell of an input.
     pub fn turned_away(&self, input: u8) -> bool
         requires { input < 32 }
-        ensures { result ≡ slice_index_or (state self.now).away input result }
+        ensures { result ≡ slice_index_or self.now.away input result }
     {
         self.away[input as usize]
     }
 
     // How many cells wait at an input.
     pub fn waiting(&self, input: u8) -> usize
-        requires shown { (st : Status) × Shows (state self.now) st }
-        requires there { input < (state self.now).real.lines }
-        ensures { (st : Status) → Shows (state self.now) st → result ≡ length ((box_in st).waiting input) }
+        requires { input < self.now.real.lines }
+        ensures { (st : Status) → Shows self.now st → result ≡ length ((box_in st).waiting input) }
     {
         self.real.waiting(input)
     }
 
     // The cell behind the first k that wait at an input, and so k stand ahead of it.
     pub fn waiting_cell(&self, input: u8, k: usize) -> Cell
-        requires shown { (st : Status) × Shows (state self.now) st }
-        requires there { input < (state self.now).real.lines }
-        requires within { (st : Status) → Shows (state self.now) st → k < length ((box_in st).waiting input) }
-        ensures cell { (st : Status) → Shows (state self.now) st → result ≡ slice_index_or ((box_in st).waiting input) k result }
-        ensures aimed { result.output < (state self.now).real.lines }
+        requires there { input < self.now.real.lines }
+        requires within { (st : Status) → Shows self.now st → k < length ((box_in st).waiting input) }
+        ensures cell { (st : Status) → Shows self.now st → result ≡ slice_index_or ((box_in st).waiting input) k result }
+        ensures aimed { result.output < self.now.real.lines }
     {
         self.real.waiting_cell(input, k)
     }
 
     // How many cells earlier than a cell stand in its store.
     pub fn earlier_stored(&self, cell: Cell) -> usize
-        requires shown { (st : Status) × Shows (state self.now) st }
-        requires there { cell.output < (state self.now).real.lines }
-        ensures { (st : Status) → Shows (state self.now) st → result ≡ count_earlier cell ((box_in st).store cell.output) }
+        requires { cell.output < self.now.real.lines }
+        ensures { (st : Status) → Shows self.now st → result ≡ count_earlier cell ((box_in st).store cell.output) }
     {
         self.real.earlier_stored(cell)
     }
 
     // The choice of the lines of a word, where one is due and it is taken.
     pub fn choice_of(&self, lines: &[u8]) -> Option<[Arrival; 32]>
-        requires shown { (st : Status) × Shows (state self.now) st }
-        requires set { 0 < (state self.now).real.lines }
-        ensures { IfSome result (λ choice. (st : Status) → Shows (state self.now) st → (ls : List Line) × (judge (lines_of st) 0 false lines.now ≡ Ok ls) × (Ok tt ≡ judge_choice (lines_of st) (arrivals_of ls) (box_in st)) × (choice_of choice ≡ arrivals_of ls)) }
+        requires { 0 < self.now.real.lines }
+        ensures { IfSome result (λ choice. (st : Status) → Shows self.now st → (ls : List Line) × (judge (lines_of st) 0 false lines.now ≡ Ok ls) × (Ok tt ≡ judge_choice (lines_of st) (arrivals_of ls) (box_in st)) × (choice_of choice ≡ arrivals_of ls)) }
     {
         self.choose(lines).ok()
     }
 
     // The cell that a choice transfers from an input: those of all inputs are the picks.
     pub fn picked(&self, input: u8, arrival: Arrival) -> Option<Cell>
-        requires shown { (st : Status) × Shows (state self.now) st }
-        requires there { input < (state self.now).real.lines }
-        ensures { (st : Status) → Shows (state self.now) st → result ≡ named arrival ((box_in st).waiting input) }
+        requires { input < self.now.real.lines }
+        ensures { (st : Status) → Shows self.now st → result ≡ named arrival ((box_in st).waiting input) }
     {
         self.real.named_at(input, arrival)
     }

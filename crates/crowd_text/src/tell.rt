@@ -1,7 +1,5 @@
 // A few lines of text for each word: the first word of a line says what it is.
 ghost use Rattle.std.specs.Prelude.{◌<◌, ◌≤◌};
-ghost use Rattle.crowd.specs.Crowd.{Status};
-ghost use Rattle.crowd.specs.State.{state, Shows};
 
 use crossbox::Cell;
 use crowd::{Crowd, differs, next_part};
@@ -12,15 +10,13 @@ use words::{Answer, MOST_LINES};
 // The number of lines, as small as it is known to be.
 pub(crate) fn lines_of(crowd: &Crowd<'_>) -> u8
     ensures few { result ≤ 32 }
-    ensures there { result ≤ (state crowd.now).real.lines }
+    ensures there { result ≤ crowd.now.real.lines }
 {
     crowd.lines().min(MOST_LINES as u8)
 }
 
 // The cells that a word transfers, by input, if it is a choice that is taken.
-pub(crate) fn picks_of(crowd: &Crowd<'_>, word: &[u8]) -> [Option<Cell>; 32]
-    requires { (st : Status) × Shows (state crowd.now) st }
-{
+pub(crate) fn picks_of(crowd: &Crowd<'_>, word: &[u8]) -> [Option<Cell>; 32] {
     let mut picks = [None; 32];
     let [_, lines @ ..] = word else {
         return picks;
@@ -89,8 +85,7 @@ pub(crate) fn tell_differs(
 
 // The cells that wait at an input.
 fn tell_list(crowd: &Crowd<'_>, input: u8, out: &mut String) -> Result<(), AllocError>
-    requires shown { (st : Status) × Shows (state crowd.now) st }
-    requires there { input < (state crowd.now).real.lines }
+    requires { input < crowd.now.real.lines }
 {
     for k in 0..crowd.waiting(input) {
         let cell = crowd.waiting_cell(input, k);
@@ -105,9 +100,7 @@ fn tell_list(crowd: &Crowd<'_>, input: u8, out: &mut String) -> Result<(), Alloc
 }
 
 // The cells that wait, by input and place.
-pub(crate) fn tell_waits(crowd: &Crowd<'_>, out: &mut String) -> Result<(), AllocError>
-    requires { (st : Status) × Shows (state crowd.now) st }
-{
+pub(crate) fn tell_waits(crowd: &Crowd<'_>, out: &mut String) -> Result<(), AllocError> {
     for input in 0..lines_of(crowd) {
         tell_list(crowd, input, out)?;
     }

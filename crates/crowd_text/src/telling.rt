@@ -1,9 +1,7 @@
 // A crowd that takes the words of a stream, and what is told of it.
 ghost use Rattle.std.specs.Prelude.{◌≡◌, ℕ, List, [], string_bytes};
-ghost use Rattle.crowd.specs.Crowd.{Status};
-ghost use Rattle.crowd.specs.State.{state, Shows};
-ghost use Rattle.switch.specs.Respond as respond;
-ghost use Rattle.switch.specs.Best as switch;
+ghost use Rattle.switch.specs.Respond.{Status};
+ghost use Rattle.switch.specs.Best.{Shows};
 
 use crate::tell::{
     departures, lines_of, picks_of, tell_differs, tell_leaves, tell_over, tell_settings, tell_slot,
@@ -36,7 +34,7 @@ impl<'b, 'c, 'i> Model for Telling<'b, 'c, 'i> {
 
     ghost view = { λ t. string_bytes t.text };
 
-    ghost invariant = { λ t. ((st : Status) × Shows (state t.crowd.now) st) × ((st : respond.Status) × switch.Shows t.ideal.now st) };
+    ghost invariant = { λ t. (st : Status) × Shows t.ideal.now st };
 }
 
 impl<'b, 'c, 'i> Telling<'b, 'c, 'i> {
@@ -47,8 +45,7 @@ impl<'b, 'c, 'i> Telling<'b, 'c, 'i> {
         form: Form,
         heap: Global,
     ) -> Telling<'b, 'c, 'i>
-        requires crowd { (st : Status) × Shows (state crowd.old) st }
-        requires ideal { (st : respond.Status) × switch.Shows ideal.old st }
+        requires { (st : Status) × Shows ideal.old st }
         ensures { result ≡ [] }
     {
         Telling {
@@ -108,8 +105,7 @@ impl<'b, 'c, 'i> Telling<'b, 'c, 'i> {
 
     // Ends with both boxes as they are now.
     pub fn into_boxes(self) -> (&'b mut Crowd<'c>, &'b mut IdealBox<'i>)
-        ensures crowd { (st : Status) × Shows (state result.0.now) st }
-        ensures ideal { (st : respond.Status) × switch.Shows result.1.now st }
+        ensures { (st : Status) × Shows result.1.now st }
     {
         let Telling { crowd, ideal, .. } = self;
         (crowd, ideal)

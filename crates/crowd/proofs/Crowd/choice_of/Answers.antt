@@ -6,7 +6,7 @@ use Rattle.words.specs.Lines.{Line, judge}
 use Rattle.cioq.specs.Arrivals.{arrivals_of}
 use Rattle.cioq.specs.Choice.{choice_of, judge_choice}
 use Rattle.crowd.specs.Crowd.{Status, lines_of, box_in}
-use Rattle.crowd.specs.State.{State, state, Shows, Choosing}
+use Rattle.crowd.specs.State.{State, Shows, Choosing}
 use Rattle.crowd.proofs.Shown.{shown_choice}
 use Rattle.crowd.proofs.Crowd.choice_of.Goals as goal
 
@@ -21,5 +21,5 @@ chosen s bytes (Err fault) set h = tt
 
 pub returns : goal.returns
 returns c =
-    subst (λ (o : Option (List Arrival)). Chosen (state c.args.self.now) c.args.lines.now o) (sym c.ok.ensures.value)
-    (chosen (state c.args.self.now) c.args.lines.now c.choose.result c.requires.set c.choose.ensures)
+    subst (λ (o : Option (List Arrival)). Chosen c.args.self.now c.args.lines.now o) (sym c.ok.ensures.value)
+    (chosen c.args.self.now c.args.lines.now c.choose.result c.requires c.choose.ensures)
