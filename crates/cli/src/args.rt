@@ -3,7 +3,7 @@ use crate::fault::CliError;
 use serve::Form;
 use std::env;
 
-// What a program is asked to do.
+// What a program is asked to do. No `Option<Form>`: `None` would have to mean help.
 #[derive(Clone, Copy)]
 pub enum Request {
     Help,

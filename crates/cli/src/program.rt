@@ -39,6 +39,7 @@ pub fn serve_input<S: Service + Drop>(rt: &HostRuntime, service: S) -> Result<()
         service,
         pending: Vec::new(heap),
     };
+    // A count that no input reaches: a loop with no end would want a word in HANDLES.
     for _ in 0..u64::MAX {
         let count = read_piece(rt, &mut piece)?;
         if count == 0 {

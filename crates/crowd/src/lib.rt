@@ -94,6 +94,7 @@ fn read_choice(lines: u8, bytes: &[u8]) -> [Arrival; 32]
 {
     let mut choice = [Arrival::Nothing; 32];
     let mut rest = bytes;
+    // By number, and not by `iter_mut`: the array is given back from within the loop too.
     for input in 0..lines {
         let Some(entry) = read_entry(rest, NO_BODY) else {
             return choice;

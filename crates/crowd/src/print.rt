@@ -125,6 +125,7 @@ pub fn differs(real: &[u8], ideal: &[u8], n: u8) -> [bool; 32]
     let mut found = [false; 32];
     let mut a = real;
     let mut b = ideal;
+    // By number: of an array that is changed through `iter_mut().take(n)` the checker knows no value (tried).
     for output in 0..n {
         let one = next_part(a);
         let other = next_part(b);

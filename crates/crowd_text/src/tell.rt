@@ -27,6 +27,7 @@ pub(crate) fn picks_of(crowd: &Crowd<'_>, word: &[u8]) -> [Option<Cell>; 32] {
     let Some(choice) = crowd.choice_of(lines) else {
         return picks;
     };
+    // By number: it is passed on too, and a chain of zips would have to say that it is below the number of lines.
     for input in 0..lines_of(crowd) {
         picks[input as usize] = crowd.picked(input, choice[input as usize]);
     }

@@ -45,7 +45,8 @@ pub fn next_line(bytes: &[u8]) -> Option<Taken<'_>>
 }
 
 // Makes `word` the word that a line spells, its line feed left out, and says whether it spells one.
-// Where it spells none, and where there is no memory, `word` is left empty.
+// Where it spells none, and where there is no memory, `word` is left empty. No option of the word: it stays in the caller's scratch,
+// of which the contract speaks too.
 pub fn read_hex(line: &[u8], word: &mut Vec<u8>) -> Result<bool, AllocError>
     ensures value { IfOk result (λ spells. spells ≡ is_some (unhex line.now)) }
     ensures items { word.new.items ≡ (if is_ok result then unwrap_or (unhex line.now) [] else []) }

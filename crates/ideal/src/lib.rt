@@ -104,6 +104,7 @@ impl<'a> IdealBox<'a> {
     {
         let mut turned_away = [false; MOST_LINES];
         let mut rest = bytes;
+        // By number, and not by `iter_mut`: the array is given back from within the loop too.
         for input in 0..self.lines {
             let Some(entry) = read_entry(rest, BODY) else {
                 return turned_away;

@@ -17,6 +17,7 @@ const LINES: usize = 32;
 
 // The first waiting cell of each pair of an input i and an output o: `waiting` has bit i of its number o set where there is one,
 // `slots` its slot at o * 32 + i, and `places` how many stand ahead of it in the list of its input at i * 32 + o.
+// Three arrays, and not one of pairs: outputs read the slots of their inputs in a row, and inputs the places of their outputs.
 #[derive(Drop)]
 pub struct Firsts {
     pub waiting: [u32; 32],

@@ -25,7 +25,7 @@ impl Head {
         owner: 0,
     };
 
-    // The head of a cell that stands in a row.
+    // The head of a cell that stands in a row. No `From`: it takes the row too.
     pub fn of(cell: Cell, owner: u16) -> Head
         ensures { result ≡ head_of cell owner }
     {
@@ -37,7 +37,7 @@ impl Head {
         }
     }
 
-    // The cell that a head tells of.
+    // The cell that a head tells of. No `From`: it gives up the row.
     pub fn cell(self) -> Cell
         ensures { result ≡ cell_of self }
     {

@@ -21,7 +21,8 @@ enum Step {
     Slot,
 }
 
-// A box that takes words and answers them just as the ideal box does.
+// A box that takes words and answers them just as the ideal box does. That a status is shown stands in the clauses: a law of the
+// trait would speak of every value of the box's state, and not only of those that a box can have.
 pub trait Switch {
     // the box is one with this status
     ghost shows: { Self → Status → Type 0 };
