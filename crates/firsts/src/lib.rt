@@ -15,6 +15,7 @@ pub const LINES: usize = 32;
 // The first waiting cell of each pair of an input i and an output o: `waiting` has bit i of its number o set where there is one,
 // `slots` its slot at o * 32 + i, and `places` how many stand ahead of it in the list of its input at i * 32 + o. What stands at
 // a pair without a cell means nothing.
+// `matching` has such a table that is made anew by going through the lists; this one takes its place when a box stands on it.
 #[repr(C)]
 #[derive(Clone, Copy)]
 pub struct Firsts {

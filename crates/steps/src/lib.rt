@@ -1,4 +1,5 @@
-// The steps of the real box as functions on its memory. Each function here has a law of them for its contract.
+// The steps of the real box as functions on its memory. Each function here has a law of them for its contract. `cioq` has the same
+// laws for rows that begin at the front of their room; these are for rows that begin anywhere, on which no box stands yet.
 #![tactic(auto)]
 
 ghost use Rattle.steps.specs.Choice.{JudgedIsStable};
