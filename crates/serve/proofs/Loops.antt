@@ -12,8 +12,8 @@ use Rattle.serve.specs.declared.form.Form.{Form}
 use Rattle.serve.specs.declared.form.Form.TheVariants.{Frames, Lines}
 use Rattle.serve.specs.Form.{spelled, taken as taken_by, word_in, cut}
 use Rattle.serve.specs.Served.{Served, Stopped, Used, word_of}
-use Rattle.serve.specs.Serving.{Serving}
-use Rattle.serve.proofs.Turns.{served-none, served-append, stopped-behind, stopped-before}
+use Rattle.serve.specs.Serving.{Serving, SameServer}
+use Rattle.serve.proofs.Turns.{same-refl, same_then, served-none, served-append, stopped-behind, stopped-before}
 
 -- what was taken stands in front of what is behind it
 abbrev pub Behind : List ℕ → List ℕ → Type 0
@@ -67,7 +67,7 @@ pub record Going {S : Type 0} (shows : S → Status → Type 0) (input rest : Li
   pub words : (cut was.form input).0 ≡ told ++ (cut was.form rest).0
   pub left : (cut was.form input).1 ≡ (cut was.form rest).1
   pub behind : Behind input rest
-  pub form : is.form ≡ was.form
+  pub same : SameServer was is
   pub served : Served shows (spelled was.form) told was.switch is.switch was.answers is.answers
 
 module _ {S : Type 0} (shows : S → Status → Type 0) where
@@ -78,7 +78,7 @@ module _ {S : Type 0} (shows : S → Status → Type 0) where
         words = refl;
         left = refl;
         behind = ([], refl);
-        form = refl;
+        same = same-refl b;
         served = served-none shows (spelled b.form) b.switch b.answers;
       }
 
@@ -86,12 +86,12 @@ module _ {S : Type 0} (shows : S → Status → Type 0) where
     -- the next word, in the form that the server has had all along
     next_cut : (w next : List ℕ) → taken_by is.form rest ≡ Some (w, next) → Cut was.form rest (word_in was.form w) next
     next_cut w next e =
-        cut-some was.form rest w next (subst (λ (f : Form). taken_by f rest ≡ Some (w, next)) g.form e)
+        cut-some was.form rest w next (subst (λ (f : Form). taken_by f rest ≡ Some (w, next)) g.same.form e)
 
     pub going_more :
         (w next : List ℕ) (then : Serving S) →
         taken_by is.form rest ≡ Some (w, next) →
-        (then.form ≡ is.form) × Served shows (spelled is.form) (word_in is.form w ∷ []) is.switch then.switch is.answers then.answers →
+        SameServer is then × Served shows (spelled is.form) (word_in is.form w ∷ []) is.switch then.switch is.answers then.answers →
         Going shows input next was then
     going_more w next then e s =
         let k = next_cut w next e in
@@ -103,36 +103,36 @@ module _ {S : Type 0} (shows : S → Status → Type 0) where
             g.behind.0 ++ k.behind.0,
             g.behind.1 ∙ ap (λ z. g.behind.0 ++ z) k.behind.1 ∙ sym (append_assoc g.behind.0 k.behind.0 next),
           );
-          form = s.0 ∙ g.form;
+          same = same_then was is then g.same s.0;
           served = served-append shows (spelled was.form) g.told (word_in was.form w ∷ []) was.switch is.switch then.switch was.answers is.answers then.answers g.served
-              (subst (λ (f : Form). Served shows (spelled f) (word_in f w ∷ []) is.switch then.switch is.answers then.answers) g.form s.1);
+              (subst (λ (f : Form). Served shows (spelled f) (word_in f w ∷ []) is.switch then.switch is.answers then.answers) g.same.form s.1);
         }
 
     pub going-stops :
         (w next : List ℕ) (then : Serving S) →
         taken_by is.form rest ≡ Some (w, next) →
-        (then.form ≡ is.form) × Stopped shows (spelled is.form) (word_in is.form w ∷ []) is.switch then.switch is.answers then.answers →
-        (then.form ≡ was.form) × Stopped shows (spelled was.form) (cut was.form input).0 was.switch then.switch was.answers then.answers
+        SameServer is then × Stopped shows (spelled is.form) (word_in is.form w ∷ []) is.switch then.switch is.answers then.answers →
+        SameServer was then × Stopped shows (spelled was.form) (cut was.form input).0 was.switch then.switch was.answers then.answers
     going-stops w next then e s =
         let k = next_cut w next e in
         let one : List (List ℕ) = word_in was.form w ∷ [] in (
-          s.0 ∙ g.form,
+          same_then was is then g.same s.0,
           subst (λ z. Stopped shows (spelled was.form) z was.switch then.switch was.answers then.answers)
               (sym (g.words ∙ ap (λ z. g.told ++ z) k.words ∙ sym (append_assoc g.told one (cut was.form next).0)))
               (stopped-before shows (spelled was.form) (g.told ++ one) (cut was.form next).0 was.switch then.switch was.answers then.answers
               (stopped-behind shows (spelled was.form) g.told one was.switch is.switch then.switch was.answers is.answers then.answers g.served
-              (subst (λ (f : Form). Stopped shows (spelled f) (word_in f w ∷ []) is.switch then.switch is.answers then.answers) g.form s.1))),
+              (subst (λ (f : Form). Stopped shows (spelled f) (word_in f w ∷ []) is.switch then.switch is.answers then.answers) g.same.form s.1))),
         )
 
     pub going-ends :
         taken_by is.form rest ≡ None →
-        (is.form ≡ was.form) × (Served shows (spelled was.form) (cut was.form input).0 was.switch is.switch was.answers is.answers × Used (length input - length rest) input (cut was.form input).1)
+        SameServer was is × (Served shows (spelled was.form) (cut was.form input).0 was.switch is.switch was.answers is.answers × Used (length input - length rest) input (cut was.form input).1)
     going-ends none =
-        let e = cut-none was.form rest (subst (λ (f : Form). taken_by f rest ≡ None) g.form none) in
+        let e = cut-none was.form rest (subst (λ (f : Form). taken_by f rest ≡ None) g.same.form none) in
         let words : (cut was.form input).0 ≡ g.told = g.words ∙ ap (λ (z : Split). g.told ++ z.0) e ∙ append-nil g.told in
         let left : (cut was.form input).1 ≡ rest = g.left ∙ ap (λ (z : Split). z.1) e in
         let long = ap length g.behind.1 ∙ length-append g.behind.0 rest in (
-          g.form,
+          g.same,
           (
             subst (λ z. Served shows (spelled was.form) z was.switch is.switch was.answers is.answers) (sym words) g.served,
             subst (Used (length input - length rest) input) (sym left) record {

@@ -11,8 +11,8 @@ use Rattle.serve.specs.declared.form.Form.{Form}
 use Rattle.serve.specs.declared.form.Form.TheVariants.{Frames, Lines}
 use Rattle.serve.specs.Form.{spelled, cut, ending, whole_words}
 use Rattle.serve.specs.Served.{Served, word_of}
-use Rattle.serve.specs.Serving.{Serving, ServesUpTo, Takes}
-use Rattle.serve.proofs.Turns.{served-none, served-append}
+use Rattle.serve.specs.Serving.{Serving, SameServer, ServesUpTo, Takes}
+use Rattle.serve.proofs.Turns.{same-refl, same_then, served-none, served-append}
 use Rattle.serve.proofs.Loops.{cut-none}
 
 -- whole words are cut by pieces as they come
@@ -35,7 +35,7 @@ pub record Fed {S : Type 0} (shows : S → Status → Type 0) (input rest pendin
   pub front : List ℕ
   pub parts : input ≡ front ++ rest
   pub kept : pending ≡ (cut was.form front).1
-  pub form : is.form ≡ was.form
+  pub same : SameServer was is
   pub served : Served shows (spelled was.form) (cut was.form front).0 was.switch is.switch was.answers is.answers
 
 module _ {S : Type 0} (shows : S → Status → Type 0) (input : List ℕ) (was : Serving S) where
@@ -45,7 +45,7 @@ module _ {S : Type 0} (shows : S → Status → Type 0) (input : List ℕ) (was 
         front = [];
         parts = refl;
         kept = sym (ap (λ (s : Split). s.1) (cut_nothing was.form));
-        form = refl;
+        same = same-refl was;
         served = subst (λ ws. Served shows (spelled was.form) ws was.switch was.switch was.answers was.answers) (sym (ap (λ (s : Split). s.0) (cut_nothing was.form))) (served-none shows (spelled was.form) was.switch was.answers);
       }
 
@@ -61,27 +61,27 @@ module _ {S : Type 0} (shows : S → Status → Type 0) (input : List ℕ) (was 
         let split : cut was.form (f.front ++ piece) ≡ then_split (cut was.form f.front) (cut is.form (pending ++ piece)) =
         cut_pieces was.form f.front piece
         ∙ ap (λ z. then_split (cut was.form f.front) (cut was.form (z ++ piece))) (sym f.kept)
-        ∙ ap (λ (form : Form). then_split (cut was.form f.front) (cut form (pending ++ piece))) (sym f.form) in
+        ∙ ap (λ (form : Form). then_split (cut was.form f.front) (cut form (pending ++ piece))) (sym f.same.form) in
         record {
           front = f.front ++ piece;
           parts = f.parts ∙ ap (λ z. f.front ++ z) r ∙ sym (append_assoc f.front piece behind);
           kept = k ∙ sym (ap (λ (z : Split). z.1) split);
-          form = s.0 ∙ f.form;
+          same = same_then was is then f.same s.0;
           served = subst (λ ws. Served shows (spelled was.form) ws was.switch then.switch was.answers then.answers) (sym (ap (λ (z : Split). z.0) split))
               (served-append shows (spelled was.form) (cut was.form f.front).0 (cut is.form (pending ++ piece)).0 was.switch is.switch then.switch was.answers is.answers then.answers f.served
-              (subst (λ (form : Form). Served shows (spelled form) (cut is.form (pending ++ piece)).0 is.switch then.switch is.answers then.answers) f.form s.1.0));
+              (subst (λ (form : Form). Served shows (spelled form) (cut is.form (pending ++ piece)).0 is.switch then.switch is.answers then.answers) f.same.form s.1.0));
         }
 
     pub fed-all :
         (then : Serving S) →
         rest ≡ [] →
-        (then.form ≡ is.form) × Served shows (spelled is.form) (ending is.form pending) is.switch then.switch is.answers then.answers →
+        SameServer is then × Served shows (spelled is.form) (ending is.form pending) is.switch then.switch is.answers then.answers →
         Served shows (spelled was.form) (whole_words was.form input) was.switch then.switch was.answers then.answers
     fed-all then e s =
         let whole : f.front ≡ input = sym (f.parts ∙ ap (λ z. f.front ++ z) e ∙ append-nil f.front) in
         let end : ending is.form pending ≡ ending was.form (cut was.form f.front).1 =
-        ap (λ (form : Form). ending form pending) f.form ∙ ap (ending was.form) f.kept in
+        ap (λ (form : Form). ending form pending) f.same.form ∙ ap (ending was.form) f.kept in
         subst (λ z. Served shows (spelled was.form) (whole_words was.form z) was.switch then.switch was.answers then.answers) whole
         (served-append shows (spelled was.form) (cut was.form f.front).0 (ending was.form (cut was.form f.front).1) was.switch is.switch then.switch was.answers is.answers then.answers f.served
         (subst (λ ws. Served shows (spelled was.form) ws is.switch then.switch is.answers then.answers) end
-        (subst (λ (form : Form). Served shows (spelled form) (ending is.form pending) is.switch then.switch is.answers then.answers) f.form s.1)))
+        (subst (λ (form : Form). Served shows (spelled form) (ending is.form pending) is.switch then.switch is.answers then.answers) f.same.form s.1)))

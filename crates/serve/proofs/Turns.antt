@@ -8,7 +8,7 @@ use Rattle.switch.specs.Promise.{Answers}
 use Rattle.serve.specs.declared.form.Form.{Form}
 use Rattle.serve.specs.Form.{spelled}
 use Rattle.serve.specs.Served.{after, given, Served, Stopped}
-use Rattle.serve.specs.Serving.{Serving, Serves}
+use Rattle.serve.specs.Serving.{Serving, Serves, SameServer}
 use Rattle.serve.proofs.Words.{after-append, after_none, after_one, answers_none, answers_one, written-append}
 
 -- what an answer that is there, or is not, adds
@@ -140,17 +140,23 @@ module _ {S : Type 0} (shows : S → Status → Type 0) (spell : List ℕ → Li
     wrote_one (Ok x) written ne e = served-one ne written e
     wrote_one (Err x) written ne e = stopped_one written e
 
+pub same-refl : {S : Type 0} (s : Serving S) → SameServer s s
+same-refl s = record { lender = refl; form = refl }
+
+pub same_then : {S : Type 0} (a b c : Serving S) → SameServer a b → SameServer b c → SameServer a c
+same_then a b c s t = record { lender = t.lender ∙ s.lender; form = t.form ∙ s.form }
+
 -- one server's words behind another's, in the form that stays
-module _ {S : Type 0} (shows : S → Status → Type 0) (was between is : Serving S) (ws vs : List (List ℕ)) (s : (between.form ≡ was.form) × Served shows (spelled was.form) ws was.switch between.switch was.answers between.answers) where
+module _ {S : Type 0} (shows : S → Status → Type 0) (was between is : Serving S) (ws vs : List (List ℕ)) (s : SameServer was between × Served shows (spelled was.form) ws was.switch between.switch was.answers between.answers) where
   pub serves-append :
       {E : Type 0} (r : Result (Unit {0}) E) → Serves r shows vs between is → Serves r shows (ws ++ vs) was is
   serves-append (Ok x) t = (
-    t.0 ∙ s.0,
+    same_then was between is s.0 t.0,
     served-append shows (spelled was.form) ws vs was.switch between.switch is.switch was.answers between.answers is.answers s.1
-        (subst (λ (f : Form). Served shows (spelled f) vs between.switch is.switch between.answers is.answers) s.0 t.1),
+        (subst (λ (f : Form). Served shows (spelled f) vs between.switch is.switch between.answers is.answers) s.0.form t.1),
   )
   serves-append (Err x) t = (
-    t.0 ∙ s.0,
+    same_then was between is s.0 t.0,
     stopped-behind shows (spelled was.form) ws vs was.switch between.switch is.switch was.answers between.answers is.answers s.1
-        (subst (λ (f : Form). Stopped shows (spelled f) vs between.switch is.switch between.answers is.answers) s.0 t.1),
+        (subst (λ (f : Form). Stopped shows (spelled f) vs between.switch is.switch between.answers is.answers) s.0.form t.1),
   )

@@ -24,7 +24,7 @@ pub struct Server<'a, S: Switch> {
 impl<'a, S: Switch> Model for Server<'a, S> {
     ghost Value = { Serving S };
 
-    ghost view = { λ s. record { switch = s.switch.now; form = s.form; answers = s.out.items } };
+    ghost view = { λ s. record { lender = s.switch.ghost_name; switch = s.switch.now; form = s.form; answers = s.out.items } };
 
     ghost invariant = { λ s. (st : Status) × S.Switch.shows s.switch.now st };
 }
@@ -33,7 +33,7 @@ impl<'a, S: Switch> Server<'a, S> {
     // A server that has given no answer yet.
     pub fn new(switch: &'a mut S, form: Form, heap: Global) -> Server<'a, S>
         requires { (st : Status) × S.Switch.shows switch.old st }
-        ensures { result ≡ record { switch = switch.old; form = form; answers = [] } }
+        ensures { result ≡ record { lender = switch.entry.ghost_name; switch = switch.old; form = form; answers = [] } }
     {
         Server {
             switch,
@@ -67,7 +67,8 @@ impl<'a, S: Switch> Server<'a, S> {
 
     // Ends with the switch as it is now.
     pub fn into_switch(self) -> &'a mut S
-        ensures { result.now ≡ self.entry.switch }
+        ensures value { result.now ≡ self.entry.switch }
+        ensures lent { result.ghost_name ≡ self.entry.lender }
     {
         let Server { switch, .. } = self;
         switch
@@ -89,7 +90,7 @@ impl<'a, S: Switch> Service for Server<'a, S> {
 
     ghost writes = { λ s. s.answers };
 
-    ghost cleared = { λ s. record { switch = s.switch; form = s.form; answers = [] } };
+    ghost cleared = { λ s. record { lender = s.lender; switch = s.switch; form = s.form; answers = [] } };
 
     fn serve(&mut self, input: &[u8]) -> Result<usize, AllocError> {
         let mut rest = input;

@@ -18,7 +18,7 @@ returns g c =
     let was = c.args.self.now in
     let same =
     ap (ending c.serve.new.self.form) (take_rest c.args.input.now c.in_ok-used.used ∙ whole.1.1.rest)
-    ∙ ap (λ (f : Form). ending f (cut was.form c.args.input.now).1) whole.0 in
+    ∙ ap (λ (f : Form). ending f (cut was.form c.args.input.now).1) whole.0.form in
     serves-append g.S.Switch.shows was c.serve.new.self c.end.new.self (cut was.form c.args.input.now).0
     (ending was.form (cut was.form c.args.input.now).1) (whole.0, whole.1.0) c.end.result
     (subst (λ ws. Serves c.end.result g.S.Switch.shows ws c.serve.new.self c.end.new.self) same c.end.ensures)
