@@ -1,7 +1,8 @@
 // A crowd that takes the words of a stream, and what is told of it.
-ghost use Rattle.std.specs.Prelude.{◌≡◌, ℕ, List, [], string_bytes};
+ghost use Rattle.std.specs.Prelude.{◌≡◌, [], string_bytes};
 ghost use Rattle.switch.specs.Respond.{Status};
 ghost use Rattle.switch.specs.Best.{Shows};
+ghost use Rattle.crowd_text.specs.Telling.{Told, SameBoxes};
 
 use crate::tell::{
     departures, lines_of, picks_of, tell_differs, tell_leaves, tell_over, tell_settings, tell_slot,
@@ -30,9 +31,9 @@ pub struct Telling<'b, 'c, 'i> {
 }
 
 impl<'b, 'c, 'i> Model for Telling<'b, 'c, 'i> {
-    ghost Value = { List ℕ };
+    ghost Value = { Told };
 
-    ghost view = { λ t. string_bytes t.text };
+    ghost view = { λ t. record { crowd_lender = t.crowd.ghost_name; ideal_lender = t.ideal.ghost_name; crowd = t.crowd.now; ideal = t.ideal.now; text = string_bytes t.text } };
 
     ghost invariant = { λ t. (st : Status) × Shows t.ideal.now st };
 }
@@ -46,7 +47,7 @@ impl<'b, 'c, 'i> Telling<'b, 'c, 'i> {
         heap: Global,
     ) -> Telling<'b, 'c, 'i>
         requires { (st : Status) × Shows ideal.old st }
-        ensures { result ≡ [] }
+        ensures { result ≡ record { crowd_lender = crowd.entry.ghost_name; ideal_lender = ideal.entry.ghost_name; crowd = crowd.old; ideal = ideal.old; text = [] } }
     {
         Telling {
             crowd,
@@ -60,7 +61,9 @@ impl<'b, 'c, 'i> Telling<'b, 'c, 'i> {
     }
 
     // A first choice that was taken, with the answers of the crowd and of the ideal box.
-    fn tell_first(&mut self, picks: &[Option<Cell>; 32]) -> Result<(), AllocError> {
+    fn tell_first(&mut self, picks: &[Option<Cell>; 32]) -> Result<(), AllocError>
+        ensures { SameBoxes self.old self.new }
+    {
         let lines = lines_of(self.crowd);
         let text = &mut self.text;
         writeln!(text, "choice 1")?;
@@ -70,7 +73,9 @@ impl<'b, 'c, 'i> Telling<'b, 'c, 'i> {
     }
 
     // A second choice that was taken.
-    fn tell_second(&mut self, picks: &[Option<Cell>; 32]) -> Result<(), AllocError> {
+    fn tell_second(&mut self, picks: &[Option<Cell>; 32]) -> Result<(), AllocError>
+        ensures { SameBoxes self.old self.new }
+    {
         writeln!(self.text, "choice 2")?;
         tell_over(picks, &mut self.text)?;
         tell_waits(self.crowd, &mut self.text)
@@ -78,7 +83,9 @@ impl<'b, 'c, 'i> Telling<'b, 'c, 'i> {
 
     // Takes a word, as it is written, the ideal box too unless it is a choice, and adds what
     // happened to the text.
-    fn tell_word(&mut self, written: &[u8]) -> Result<(), AllocError> {
+    fn tell_word(&mut self, written: &[u8]) -> Result<(), AllocError>
+        ensures { SameBoxes self.old self.new }
+    {
         let word = self.form.read(written, &mut self.scratch)?;
         let due = self.crowd.due();
         let picks = picks_of(self.crowd, word);
@@ -105,7 +112,11 @@ impl<'b, 'c, 'i> Telling<'b, 'c, 'i> {
 
     // Ends with both boxes as they are now.
     pub fn into_boxes(self) -> (&'b mut Crowd<'c>, &'b mut IdealBox<'i>)
-        ensures { (st : Status) × Shows result.1.now st }
+        ensures crowd { result.0.now ≡ self.entry.crowd }
+        ensures ideal { result.1.now ≡ self.entry.ideal }
+        ensures shows { (st : Status) × Shows result.1.now st }
+        ensures crowd_lent { result.0.ghost_name ≡ self.entry.crowd_lender }
+        ensures ideal_lent { result.1.ghost_name ≡ self.entry.ideal_lender }
     {
         let Telling { crowd, ideal, .. } = self;
         (crowd, ideal)
@@ -113,7 +124,7 @@ impl<'b, 'c, 'i> Telling<'b, 'c, 'i> {
 
     // Ends with the text.
     pub fn into_text(self) -> String
-        ensures { string_bytes result ≡ self.entry }
+        ensures { string_bytes result ≡ self.entry.text }
     {
         let Telling { text, .. } = self;
         text
@@ -121,13 +132,13 @@ impl<'b, 'c, 'i> Telling<'b, 'c, 'i> {
 }
 
 impl<'b, 'c, 'i> Service for Telling<'b, 'c, 'i> {
-    ghost serves = { λ _ _ _ _. Unit {0} };
+    ghost serves = { λ was _ _ is. SameBoxes was is };
 
-    ghost ends = { λ _ _ _ _. Unit {0} };
+    ghost ends = { λ was _ _ is. SameBoxes was is };
 
-    ghost writes = { λ t. t };
+    ghost writes = { λ t. t.text };
 
-    ghost cleared = { λ _. [] };
+    ghost cleared = { λ t. record { crowd_lender = t.crowd_lender; ideal_lender = t.ideal_lender; crowd = t.crowd; ideal = t.ideal; text = [] } };
 
     // The loop of `Server` again: one loop for both would say of any words taken in turn what each says of its own.
     fn serve(&mut self, input: &[u8]) -> Result<usize, AllocError> {

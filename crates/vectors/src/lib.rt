@@ -1,7 +1,7 @@
 // Streams in files, with what must come of them.
 #![tactic(auto)]
 
-ghost use Rattle.std.specs.Prelude.{◌≡◌, true, IfOk, MatchOption, ⊤};
+ghost use Rattle.std.specs.Prelude.{◌≡◌, ◌≢◌, true, false, IfOk, MatchOption};
 ghost use Rattle.vectors.specs.Judging.{AsExpected};
 
 use std::{env, fmt, fs};
@@ -34,7 +34,8 @@ impl Vector {
         way: &str,
         came: Result<&[u8], E>,
     ) -> anyhow::Result<bool>
-        ensures { IfOk result (λ good. good ≡ true → AsExpected came.entry self.now.expected.items) }
+        ensures as_expected { IfOk result (λ good. good ≡ true → AsExpected came.entry self.now.expected.items) }
+        ensures otherwise { IfOk result (λ good. good ≡ false → AsExpected came.entry self.now.expected.items → ⊥) }
     {
         let name = &self.name;
         match came.map(|bytes| difference(bytes, &self.expected)) {
@@ -64,7 +65,7 @@ pub fn check_all<F: FnMut(&Vector) -> anyhow::Result<bool>>(
 
 // The first place where two rows of bytes differ.
 fn difference(a: &[u8], b: &[u8]) -> Option<usize>
-    ensures { MatchOption result (a.now ≡ b.now) (λ at. ⊤) }
+    ensures { MatchOption result (a.now ≡ b.now) (λ at. a.now ≢ b.now) }
 {
     if a == b {
         return None;
