@@ -15,7 +15,8 @@ use words::{DEPARTURE_BYTES, NONE};
 impl<'a> Crowd<'a> {
     // How many lines there are; 0 before the first settings.
     pub fn lines(&self) -> u8
-        ensures { result ≡ self.now.real.lines }
+        ensures lines { result ≡ self.now.real.lines }
+        ensures few { result ≤ 32 }
     {
         self.real.lines()
     }

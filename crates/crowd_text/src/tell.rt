@@ -5,15 +5,7 @@ use crossbox::Cell;
 use crowd::{Crowd, differs, next_part};
 use std::alloc::AllocError;
 use std::fmt::Write;
-use words::{Answer, MOST_LINES};
-
-// The number of lines, as small as it is known to be.
-pub(crate) fn lines_of(crowd: &Crowd<'_>) -> u8
-    ensures few { result ≤ 32 }
-    ensures there { result ≤ crowd.now.real.lines }
-{
-    crowd.lines().min(MOST_LINES as u8)
-}
+use words::Answer;
 
 // The cells that a word transfers, by input, if it is a choice that is taken.
 pub(crate) fn picks_of(crowd: &Crowd<'_>, word: &[u8]) -> [Option<Cell>; 32] {
@@ -28,7 +20,7 @@ pub(crate) fn picks_of(crowd: &Crowd<'_>, word: &[u8]) -> [Option<Cell>; 32] {
         return picks;
     };
     // By number: it is passed on too, and a chain of zips would have to say that it is below the number of lines.
-    for input in 0..lines_of(crowd) {
+    for input in 0..crowd.lines() {
         picks[input as usize] = crowd.picked(input, choice[input as usize]);
     }
     picks
@@ -102,7 +94,7 @@ fn tell_list(crowd: &Crowd<'_>, input: u8, out: &mut String) -> Result<(), Alloc
 
 // The cells that wait, by input and place.
 pub(crate) fn tell_waits(crowd: &Crowd<'_>, out: &mut String) -> Result<(), AllocError> {
-    for input in 0..lines_of(crowd) {
+    for input in 0..crowd.lines() {
         tell_list(crowd, input, out)?;
     }
     Ok(())
@@ -111,7 +103,7 @@ pub(crate) fn tell_waits(crowd: &Crowd<'_>, out: &mut String) -> Result<(), Allo
 // A slot that was taken: its number, and whose cells it turned away.
 pub(crate) fn tell_slot(crowd: &Crowd<'_>, out: &mut String) -> Result<(), AllocError> {
     writeln!(out, "slot {}", crowd.slots().saturating_sub(1))?;
-    for input in 0..lines_of(crowd) {
+    for input in 0..crowd.lines() {
         if crowd.turned_away(input) {
             writeln!(out, "away {input}")?;
         }

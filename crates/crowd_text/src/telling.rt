@@ -5,7 +5,7 @@ ghost use Rattle.switch.specs.Best.{Shows};
 ghost use Rattle.crowd_text.specs.Telling.{Told, SameBoxes};
 
 use crate::tell::{
-    departures, lines_of, picks_of, tell_differs, tell_leaves, tell_over, tell_settings, tell_slot,
+    departures, picks_of, tell_differs, tell_leaves, tell_over, tell_settings, tell_slot,
     tell_waits,
 };
 use crossbox::Cell;
@@ -64,7 +64,7 @@ impl<'b, 'c, 'i> Telling<'b, 'c, 'i> {
     fn tell_first(&mut self, picks: &[Option<Cell>; 32]) -> Result<(), AllocError>
         ensures { SameBoxes self.old self.new }
     {
-        let lines = lines_of(self.crowd);
+        let lines = self.crowd.lines();
         let text = &mut self.text;
         writeln!(text, "choice 1")?;
         tell_over(picks, text)?;

@@ -72,25 +72,15 @@ impl Answer {
         self.len += 1;
     }
 
-    // Writes a number of 32 bits, high byte first.
+    // Writes a part of so many bytes.
     #[tactic(auto, using(crate::proofs::Overwrites::appended_part))]
-    fn push_number(&mut self, x: u32)
-        requires { self.old.len + 4 ≤ ANSWER_BYTES }
-        ensures { self.new ≡ appended (big_endian4 x) self.old }
+    fn push_part<const N: usize>(&mut self, part: &[u8; N])
+        requires { self.old.len + N ≤ ANSWER_BYTES }
+        ensures bytes { self.new ≡ appended part.now self.old }
+        ensures size { length part.now ≡ N }
     {
-        self.bytes[self.len..self.len + 4].copy_from_slice(&x.to_be_bytes());
-        self.len += 4;
-    }
-
-    // Writes what a cell carries.
-    #[tactic(auto, using(crate::proofs::Overwrites::appended_part))]
-    fn push_body(&mut self, body: &[u8; BODY])
-        requires { self.old.len + BODY ≤ ANSWER_BYTES }
-        ensures bytes { self.new ≡ appended body.now self.old }
-        ensures carried { length body.now ≡ BODY }
-    {
-        self.bytes[self.len..self.len + BODY].copy_from_slice(body);
-        self.len += BODY;
+        self.bytes[self.len..self.len + N].copy_from_slice(part);
+        self.len += N;
     }
 
     // Writes a cell that leaves: its input, the slot in which it arrived, and what it carries.
@@ -101,8 +91,8 @@ impl Answer {
         ensures carried { length body.now ≡ BODY }
     {
         self.push(cell.input);
-        self.push_number(cell.slot);
-        self.push_body(body);
+        self.push_part(&cell.slot.to_be_bytes());
+        self.push_part(body);
     }
 
     // Writes for each input whether its cell was turned away.
