@@ -18,6 +18,7 @@ fn rows_fit(count: usize, room: usize, len: usize) -> bool
     count.checked_mul(room).is_some_and(|size| size <= len)
 }
 
+// The four slices are cut to the size of the rows and places, and those of a `Loan` are as long as the caller has them.
 // `Sound` stands in the clauses: a ghost field would have to hold in the middle of a put too, and a model of a struct with const
 // parameters that holds references gets no proof.
 #[derive(Drop)]

@@ -6,7 +6,7 @@ ghost use Rattle.cioq.specs.Arrivals.{Brings, admit_one, turned_away, admit_all,
 use crate::RealBox;
 use buffer::ROOM;
 use crossbox::{Arrival, Cell};
-use words::{BODY, body_of, read_entry};
+use words::{BODY, MOST_LINES, body_of, read_entry};
 
 impl<'a> RealBox<'a> {
     // Puts what arrives by an input into its list; true where 256 cells are held for its output, and the cell is turned away.
@@ -37,13 +37,13 @@ impl<'a> RealBox<'a> {
     }
 
     // Admits the lines of a slot, whose bytes are known to be good; by input, whether its cell was turned away.
-    pub fn arrive(&mut self, bytes: &[u8]) -> [bool; 32]
+    pub fn arrive(&mut self, bytes: &[u8]) -> [bool; MOST_LINES]
         requires early { self.old.slots < 2 ^ 32 }
         requires read { Ok tt ≡ verdict (judge self.old.lines 64 false bytes.now) }
         ensures after { self.new ≡ admit_all (slot_lines self.old.lines bytes.now) self.old.lines self.old }
         ensures away { (i : ℕ) → i < 32 → slice_index_or result i false ≡ (nat_lt i self.old.lines && away (slot_lines self.old.lines bytes.now) self.old i) }
     {
-        let mut away = [false; 32];
+        let mut away = [false; MOST_LINES];
         let mut rest = bytes;
         let lines = self.lines;
         // By number and not over `away` itself, which is given back from within the loop.

@@ -11,7 +11,7 @@ use crate::RealBox;
 use crate::search::first_for;
 use bits::{has, with};
 use crossbox::{Arrival, Cell, is_earlier};
-use words::Fault;
+use words::{Fault, MOST_LINES};
 
 // A choice is taken just where each cell that it names waits, and it is stable.
 pub fn taken_choices_are_stable()
@@ -24,7 +24,7 @@ pub fn stable_choices_are_named()
 {}
 
 // Whether no two of the first inputs name cells for one output.
-fn one_for_each(lines: u8, choice: &[Arrival; 32]) -> bool
+fn one_for_each(lines: u8, choice: &[Arrival; MOST_LINES]) -> bool
     requires few { lines ≤ 32 }
     requires fits { Fits lines (choice_of choice.now) }
     ensures { result ≡ one_output lines (choice_of choice.now) }
@@ -67,7 +67,7 @@ impl<'a> RealBox<'a> {
     }
 
     // Whether every cell that is named waits.
-    fn all_wait(&self, choice: &[Arrival; 32]) -> bool
+    fn all_wait(&self, choice: &[Arrival; MOST_LINES]) -> bool
         ensures { result ≡ all_wait self.now.lines (choice_of choice.now) (box_of self.now.lines self.now.mem) }
     {
         (0..self.lines)
@@ -76,11 +76,11 @@ impl<'a> RealBox<'a> {
     }
 
     // By output, the cell that it gets.
-    fn gets(&self, choice: &[Arrival; 32]) -> [Option<Cell>; 32]
+    fn gets(&self, choice: &[Arrival; MOST_LINES]) -> [Option<Cell>; MOST_LINES]
         requires fits { Fits self.now.lines (choice_of choice.now) }
         ensures { (o : ℕ) → o < 32 → table_of result o ≡ gets_of (picks self.now.lines (choice_of choice.now) (box_of self.now.lines self.now.mem)) o }
     {
-        let mut gets = [None; 32];
+        let mut gets = [None; MOST_LINES];
         for (input, &arrival) in (0..self.lines).zip(choice) {
             if let Some(cell) = self.named_at(input, arrival) {
                 gets[cell.output as usize] = Some(cell);
@@ -90,7 +90,7 @@ impl<'a> RealBox<'a> {
     }
 
     // Whether each cell of a list, up to the one that its input sends, has an output that gets an earlier one.
-    fn settled(&self, input: u8, arrival: Arrival, gets: &[Option<Cell>; 32]) -> bool
+    fn settled(&self, input: u8, arrival: Arrival, gets: &[Option<Cell>; MOST_LINES]) -> bool
         requires there { input < self.now.lines }
         requires aimed { AllByRecursion (λ c. c.output < 32) (cells self.now.mem input) }
         ensures { result ≡ settled (table_of gets.now) arrival (cells self.now.mem input) }
@@ -102,7 +102,7 @@ impl<'a> RealBox<'a> {
     }
 
     // Whether that holds of every list.
-    fn all_settled(&self, choice: &[Arrival; 32], gets: &[Option<Cell>; 32]) -> bool
+    fn all_settled(&self, choice: &[Arrival; MOST_LINES], gets: &[Option<Cell>; MOST_LINES]) -> bool
         requires aimed { Aimed self.now }
         ensures { result ≡ all_settled self.now.lines (table_of gets.now) (choice_of choice.now) (box_of self.now.lines self.now.mem) }
     {
@@ -112,7 +112,7 @@ impl<'a> RealBox<'a> {
     }
 
     // The lowest fault of a choice: a cell that does not wait, two for one output, or one that is left behind without a reason.
-    pub fn test(&self, choice: &[Arrival; 32]) -> Result<(), Fault>
+    pub fn test(&self, choice: &[Arrival; MOST_LINES]) -> Result<(), Fault>
         requires fits { Fits self.now.lines (choice_of choice.now) }
         requires aimed { Aimed self.now }
         ensures { result ≡ judge_choice self.now.lines (choice_of choice.now) (box_of self.now.lines self.now.mem) }

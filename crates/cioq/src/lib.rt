@@ -23,6 +23,7 @@ pub use kept::{
     transfer_stays_within,
 };
 use std::marker::Model;
+use words::MOST_LINES;
 
 // Rows: a list for each of 32 inputs, and a store for each of 32 outputs.
 pub const ROWS: usize = 64;
@@ -36,7 +37,7 @@ pub const ENTRIES: usize = ROWS * ROW_ROOM;
 #[derive(Drop)]
 pub struct RealBox<'a> {
     memory: Memory<'a, ROWS, ROW_ROOM>,
-    held: [u16; 32],
+    held: [u16; MOST_LINES],
     lines: u8,
     slots: u64,
 }
@@ -60,7 +61,7 @@ impl<'a> RealBox<'a> {
         let memory = Memory::new(loan)?;
         Some(RealBox {
             memory,
-            held: [0; 32],
+            held: [0; MOST_LINES],
             lines: 0,
             slots: 0,
         })
@@ -87,7 +88,7 @@ impl<'a> RealBox<'a> {
         ensures { self.new ≡ begun lines self.old }
     {
         self.memory.reset(PLACES_A_LINE * u16::from(lines));
-        self.held = [0; 32];
+        self.held = [0; MOST_LINES];
         self.lines = lines;
         self.slots = 0;
     }

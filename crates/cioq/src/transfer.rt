@@ -8,6 +8,7 @@ ghost use Rattle.cioq.specs.Transfers.{position, Sends, sent, transfer_one, tran
 use crate::RealBox;
 use crate::search::{first_for, place_for};
 use crossbox::Arrival;
+use words::MOST_LINES;
 
 impl<'a> RealBox<'a> {
     // Carries the first cell for an output in the list of an input to its place in the store.
@@ -36,7 +37,7 @@ impl<'a> RealBox<'a> {
     }
 
     // Carries each cell that a choice names, all of which wait, to its place in its store.
-    pub fn transfer(&mut self, choice: &[Arrival; 32])
+    pub fn transfer(&mut self, choice: &[Arrival; MOST_LINES])
         requires fits { Fits self.old.lines (choice_of choice.now) }
         requires waits { all_wait self.old.lines (choice_of choice.now) (box_of self.old.lines self.old.mem) ≡ true }
         ensures { self.new ≡ transfer_all self.old.lines (choice_of choice.now) self.old }

@@ -24,7 +24,8 @@ use crossbox::Arrival;
 pub use print::{Part, differs, next_part};
 use std::marker::Model;
 use words::{
-    ANSWER, Answer, BODY, Fault, Kind, SLOT_LIMIT, judge_lines, read_entry, read_settings,
+    ANSWER, Answer, BODY, Fault, Kind, MOST_LINES, SLOT_LIMIT, judge_lines, read_entry,
+    read_settings,
 };
 
 // A choice names cells, and has no bytes of theirs.
@@ -39,7 +40,7 @@ pub enum Due {
     Second,
 }
 
-// What a word is to be taken for.
+// What a word is to be taken for; a refusal is one of them, as each is an arm where words are taken.
 #[derive(Clone, Copy)]
 pub enum Turn {
     Settings,
@@ -53,7 +54,7 @@ pub enum Turn {
 pub struct Crowd<'a> {
     real: RealBox<'a>,
     due: Due,
-    away: [bool; 32],
+    away: [bool; MOST_LINES],
 }
 
 // Contracts see its real box, what is due, and what the slot turned away. It always shows some status.
@@ -87,12 +88,12 @@ fn turn_of(due: Due, kind: Kind) -> Turn
 }
 
 // What is named at each input, by bytes that are known to be good.
-fn read_choice(lines: u8, bytes: &[u8]) -> [Arrival; 32]
+fn read_choice(lines: u8, bytes: &[u8]) -> [Arrival; MOST_LINES]
     requires few { lines ≤ 32 }
     requires read { Ok tt ≡ verdict (judge lines 0 false bytes.now) }
     ensures { choice_of result ≡ arrivals_of (choice_lines lines bytes.now) }
 {
-    let mut choice = [Arrival::Nothing; 32];
+    let mut choice = [Arrival::Nothing; MOST_LINES];
     let mut rest = bytes;
     // By number, and not by `iter_mut`: the array is given back from within the loop too.
     for input in 0..lines {
@@ -114,7 +115,7 @@ impl<'a> Crowd<'a> {
         Some(Crowd {
             real,
             due: Due::Unset,
-            away: [false; 32],
+            away: [false; MOST_LINES],
         })
     }
 
@@ -134,6 +135,7 @@ impl<'a> Crowd<'a> {
         requires { self.old.due ≡ due.Slot }
         ensures { (told : Draft) → Told result answer.new told → Slotted (judge self.old.real.lines 64 (nat_le 4294967296 self.old.real.slots) lines.now) self.old self.new answer.old told }
     {
+        // As a `Switch` compares: a function would give this comparison a name, and no more.
         let late = self.real.slots() >= SLOT_LIMIT;
         judge_lines(self.real.lines(), BODY, late, lines)?;
         self.away = self.real.arrive(lines);
@@ -144,7 +146,7 @@ impl<'a> Crowd<'a> {
     }
 
     // The choice of a word, or its lowest fault.
-    fn choose(&self, lines: &[u8]) -> Result<[Arrival; 32], Fault>
+    fn choose(&self, lines: &[u8]) -> Result<[Arrival; MOST_LINES], Fault>
         ensures { Choosing self.now lines.now result }
     {
         judge_lines(self.real.lines(), NO_BODY, false, lines)?;

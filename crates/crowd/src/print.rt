@@ -10,7 +10,7 @@ ghost use Rattle.crowd.specs.Parts.{part_size, part, behind, part_of};
 
 use crate::{Crowd, Due};
 use crossbox::{Arrival, Cell};
-use words::{DEPARTURE_BYTES, NONE};
+use words::{DEPARTURE_BYTES, MOST_LINES, NONE};
 
 impl<'a> Crowd<'a> {
     // How many lines there are; 0 before the first settings.
@@ -71,7 +71,7 @@ impl<'a> Crowd<'a> {
     }
 
     // The choice of the lines of a word, where one is due and it is taken.
-    pub fn choice_of(&self, lines: &[u8]) -> Option<[Arrival; 32]>
+    pub fn choice_of(&self, lines: &[u8]) -> Option<[Arrival; MOST_LINES]>
         requires { 0 < self.now.real.lines }
         ensures { IfSome result (λ choice. (st : Status) → Shows self.now st → (ls : List Line) × (judge (lines_of st) 0 false lines.now ≡ Ok ls) × (Ok tt ≡ judge_choice (lines_of st) (arrivals_of ls) (box_in st)) × (choice_of choice ≡ arrivals_of ls)) }
     {
@@ -87,7 +87,7 @@ impl<'a> Crowd<'a> {
     }
 }
 
-// One output's part of an answer, and the bytes behind it.
+// One output's part of an answer, and the bytes behind it. No `Taken` of `frames`: a crowd knows nothing of frames.
 #[derive(Clone, Copy)]
 pub struct Part<'a> {
     pub bytes: &'a [u8],
@@ -117,13 +117,13 @@ pub fn next_part(bytes: &[u8]) -> Part<'_>
 }
 
 // By output, whether two answers of n lines tell of another departure; both are given behind their first byte.
-pub fn differs(real: &[u8], ideal: &[u8], n: u8) -> [bool; 32]
+pub fn differs(real: &[u8], ideal: &[u8], n: u8) -> [bool; MOST_LINES]
     requires { n ≤ 32 }
     ensures where_they_differ { (o : ℕ) → o < n → slice_index_or result o false ≡ false → part_of o real.now ≡ part_of o ideal.now }
     ensures alike { real.now ≡ ideal.now → (o : ℕ) → o < n → slice_index_or result o false ≡ false }
     ensures where_they_agree { (o : ℕ) → o < n → part_of o real.now ≡ part_of o ideal.now → slice_index_or result o false ≡ false }
 {
-    let mut found = [false; 32];
+    let mut found = [false; MOST_LINES];
     let mut a = real;
     let mut b = ideal;
     // By number: of an array that is changed through `iter_mut().take(n)` the checker knows no value (tried).

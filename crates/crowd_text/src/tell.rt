@@ -1,15 +1,16 @@
-// A few lines of text for each word: the first word of a line says what it is.
+// A few lines of text for each word: the first word of a line says what it is. No methods of `Telling`: each reads a crowd or a row of
+// bytes and writes the text, and would have to say that it leaves both boxes with their lenders.
 ghost use Rattle.std.specs.Prelude.{◌<◌, ◌≤◌};
 
 use crossbox::Cell;
 use crowd::{Crowd, differs, next_part};
 use std::alloc::AllocError;
 use std::fmt::Write;
-use words::Answer;
+use words::{Answer, MOST_LINES};
 
 // The cells that a word transfers, by input, if it is a choice that is taken.
-pub(crate) fn picks_of(crowd: &Crowd<'_>, word: &[u8]) -> [Option<Cell>; 32] {
-    let mut picks = [None; 32];
+pub(crate) fn picks_of(crowd: &Crowd<'_>, word: &[u8]) -> [Option<Cell>; MOST_LINES] {
+    let mut picks = [None; MOST_LINES];
     let [_, lines @ ..] = word else {
         return picks;
     };
@@ -27,7 +28,10 @@ pub(crate) fn picks_of(crowd: &Crowd<'_>, word: &[u8]) -> [Option<Cell>; 32] {
 }
 
 // The cells that were transferred.
-pub(crate) fn tell_over(picks: &[Option<Cell>; 32], out: &mut String) -> Result<(), AllocError> {
+pub(crate) fn tell_over(
+    picks: &[Option<Cell>; MOST_LINES],
+    out: &mut String,
+) -> Result<(), AllocError> {
     for (input, pick) in picks.iter().enumerate() {
         if let Some(cell) = pick {
             writeln!(out, "over {input} {} {}", cell.output, cell.slot)?;

@@ -16,7 +16,7 @@ use std::alloc::{AllocError, Global};
 use std::fmt::Write;
 use std::marker::Model;
 use switch::Switch;
-use words::{Answer, Kind, REFUSAL};
+use words::{Answer, Kind, MOST_LINES, REFUSAL};
 
 // A crowd, the ideal box on the same slots, and the text of what happens.
 #[derive(Drop)]
@@ -61,7 +61,7 @@ impl<'b, 'c, 'i> Telling<'b, 'c, 'i> {
     }
 
     // A first choice that was taken, with the answers of the crowd and of the ideal box.
-    fn tell_first(&mut self, picks: &[Option<Cell>; 32]) -> Result<(), AllocError>
+    fn tell_first(&mut self, picks: &[Option<Cell>; MOST_LINES]) -> Result<(), AllocError>
         ensures { SameBoxes self.old self.new }
     {
         let lines = self.crowd.lines();
@@ -73,7 +73,7 @@ impl<'b, 'c, 'i> Telling<'b, 'c, 'i> {
     }
 
     // A second choice that was taken.
-    fn tell_second(&mut self, picks: &[Option<Cell>; 32]) -> Result<(), AllocError>
+    fn tell_second(&mut self, picks: &[Option<Cell>; MOST_LINES]) -> Result<(), AllocError>
         ensures { SameBoxes self.old self.new }
     {
         writeln!(self.text, "choice 2")?;

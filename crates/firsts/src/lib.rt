@@ -40,7 +40,7 @@ fn put_back(places: &mut [u16], k: u16)
     }
 }
 
-// Each place of an input's list is one less, above the k-th.
+// Each place of an input's list is one less, above the k-th. One function with `put_back` would take what is done and the bound.
 fn bring_forward(places: &mut [u16], k: u16)
     ensures { places.new ≡ map (sooner k) places.old }
 {

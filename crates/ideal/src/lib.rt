@@ -15,7 +15,7 @@ use std::marker::Model;
 use words::{ANSWER, ANSWER_BYTES, Answer, BODY, DEPARTURE_BYTES, MOST_LINES, body_of, read_entry};
 
 // The entries of rows that the box is lent: 32 queues.
-pub const ENTRIES: usize = 32 * ROOM;
+pub const ENTRIES: usize = MOST_LINES * ROOM;
 
 #[derive(Drop)]
 pub struct IdealBox<'a> {

@@ -8,7 +8,8 @@ use frames::frame::{next_frame, push_frame};
 use frames::hex::{next_line, push_hex_line, read_hex};
 use std::alloc::AllocError;
 
-// Frames with a length, or lines of hexadecimal digits.
+// Frames with a length, or lines of hexadecimal digits. An argument of a program says which, so each method has a match and no
+// type of its own for either.
 #[derive(Clone, Copy)]
 pub enum Form {
     Frames,

@@ -7,7 +7,7 @@ use crate::fault::Fault;
 use crate::{BODY, CHOICE, MOST_LINES, NONE, SETTINGS, SLOT};
 use crossbox::Arrival;
 
-// The kind of a word, by its first byte.
+// The kind of a word, by its first byte. `Unknown` is no None: a word of no kind is matched beside the others, in one match.
 #[derive(Clone, Copy, PartialEq, Eq)]
 pub enum Kind {
     Settings,
@@ -43,7 +43,8 @@ pub fn read_settings(word: &[u8]) -> Result<u8, Fault>
     Ok(*lines)
 }
 
-// One input's part of a word, and the bytes behind it that are not yet read.
+// One input's part of a word, and the bytes behind it that are not yet read. The body is empty where nothing arrives: it is what
+// stands in the word, and a body within `Arrival` would go into every choice too.
 #[derive(Clone, Copy)]
 pub struct Entry<'a> {
     pub arrival: Arrival,
