@@ -1,6 +1,6 @@
 use Rattle.std.proofs.Common.{◌≡◌, ℕ, zero, suc, ◌+◌, ◌<◌, Bool, eqb, true, false, not, cond, refl, sym, ap, ◌∙◌, subst, arith}
 use Rattle.std.proofs.lemmas.Bool.{eqb-false}
-use Rattle.buffer.specs.Memory.{Mem, view, remove, row_length}
+use Rattle.buffer.specs.Memory.{Mem, remove}
 use Rattle.cioq.specs.State.{Good, Counted, seen}
 use Rattle.cioq.specs.Departures.{without_first}
 use Rattle.cioq.proofs.Departures.{without_good}

@@ -1,4 +1,3 @@
-use Rattle.std.proofs.Common.{refl}
 use Rattle.serve.proofs.Turns.{same-refl, served-none}
 use Rattle.serve.proofs.server.ServerService.end.Goals as goal
 
