@@ -113,3 +113,23 @@ appended_part size bs part w e l =
     let bytes = overwrite-part w.len size bs part w.bytes e l in
     let n = sym l in
     λ i. record { bytes = bytes i; len = w.len + n i }
+
+overwrite_all : (bytes out : List ℕ) → length bytes ≡ length out → overwrite 0 bytes out ≡ bytes
+unfolding overwrite
+overwrite_all bytes out e =
+    ap (λ (xs : List ℕ). bytes ++ xs) (drop_all (0 + length bytes) out (omega arith)) ∙ append-nil bytes
+
+-- a departure in a part of 69 bytes, as the code leaves it: one byte, then 4, then 64
+pub departure_written : (input : ℕ) (slot body first last part : List ℕ) →
+    length part ≡ 69 → first ≡ slot → length slot ≡ 4 → last ≡ body → length body ≡ 64 →
+    put_mid 5 64 (put_mid 1 4 (set part 0 input) first) last ≡ input ∷ (slot ++ body)
+departure_written input slot body first last part size e four f long =
+    let one = overwrite_byte 0 input part (omega arith) in
+    let two : put_mid 1 4 (set part 0 input) first ≡ overwrite 0 (input ∷ slot) part =
+    overwrite-part 1 4 slot first (set part 0 input) e four
+    ∙ ap (λ (xs : List ℕ). overwrite 1 slot xs) one
+    ∙ overwrite_then 0 1 (input ∷ []) slot part refl (omega arith) in
+    overwrite-part 5 64 body last (put_mid 1 4 (set part 0 input) first) f long
+    ∙ ap (λ (xs : List ℕ). overwrite 5 body xs) two
+    ∙ overwrite_then 0 5 (input ∷ slot) body part (omega arith) (omega arith)
+    ∙ overwrite_all (input ∷ (slot ++ body)) part (omega (arith, length-append slot body))

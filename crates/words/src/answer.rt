@@ -8,6 +8,28 @@ use crate::{ANSWER_BYTES, BODY, DEPARTURE_BYTES, REFUSAL};
 use crossbox::Cell;
 use std::marker::Model;
 
+// Writes a cell that leaves into a part of as many bytes.
+fn write_departure(part: &mut [u8], cell: Cell, body: &[u8; BODY])
+    requires { length part.old ≡ DEPARTURE_BYTES }
+    ensures bytes { part.new ≡ departure_bytes cell body.now }
+    ensures carried { length body.now ≡ BODY }
+{
+    part[0] = cell.input;
+    part[1..5].copy_from_slice(&cell.slot.to_be_bytes());
+    part[5..DEPARTURE_BYTES].copy_from_slice(body);
+}
+
+// Writes flags into a part of as many bytes. A function of its own: a loop over what `Answer` has would write its length too, in
+// each turn.
+fn write_flags(part: &mut [u8], turned_away: &[bool])
+    requires { length part.old ≡ length turned_away.now }
+    ensures { part.new ≡ flag_bytes turned_away.now }
+{
+    for (input, byte) in part.iter_mut().enumerate() {
+        *byte = u8::from(turned_away[input]);
+    }
+}
+
 #[derive(Drop)]
 pub struct Answer {
     bytes: [u8; ANSWER_BYTES],
@@ -72,38 +94,27 @@ impl Answer {
         self.len += 1;
     }
 
-    // Writes a part of so many bytes.
-    #[tactic(auto, using(crate::proofs::Overwrites::appended_part))]
-    fn push_part<const N: usize>(&mut self, part: &[u8; N])
-        requires { self.old.len + N ≤ ANSWER_BYTES }
-        ensures bytes { self.new ≡ appended part.now self.old }
-        ensures size { length part.now ≡ N }
-    {
-        self.bytes[self.len..self.len + N].copy_from_slice(part);
-        self.len += N;
-    }
-
     // Writes a cell that leaves: its input, the slot in which it arrived, and what it carries.
-    #[tactic(auto, using(crate::proofs::Overwrites::appended_then))]
+    #[tactic(auto, using(crate::proofs::Overwrites::appended_part))]
     pub fn push_departure(&mut self, cell: Cell, body: &[u8; BODY])
         requires { self.old.len + DEPARTURE_BYTES ≤ ANSWER_BYTES }
         ensures bytes { self.new ≡ appended (departure_bytes cell body.now) self.old }
         ensures carried { length body.now ≡ BODY }
     {
-        self.push(cell.input);
-        self.push_part(&cell.slot.to_be_bytes());
-        self.push_part(body);
+        let end = self.len + DEPARTURE_BYTES;
+        write_departure(&mut self.bytes[self.len..end], cell, body);
+        self.len = end;
     }
 
     // Writes for each input whether its cell was turned away.
-    #[tactic(auto, using(crate::proofs::Answered::no_flags, crate::proofs::Answered::flag_more))]
+    #[tactic(auto, using(crate::proofs::Overwrites::appended_part))]
     pub fn push_flags(&mut self, turned_away: &[bool])
         requires { self.old.len + length turned_away.now ≤ ANSWER_BYTES }
         ensures { self.new ≡ appended (flag_bytes turned_away.now) self.old }
     {
-        for away in turned_away {
-            self.push(u8::from(*away));
-        }
+        let end = self.len + turned_away.len();
+        write_flags(&mut self.bytes[self.len..end], turned_away);
+        self.len = end;
     }
 
     // Writes a refusal, and nothing else.

@@ -1,7 +1,7 @@
 // Readers of words: each gives what the bytes say, or that they say nothing.
 ghost use Rattle.std.specs.Prelude.{◌≡◌, length};
 ghost use Rattle.words.specs.Kind.{kind_of};
-ghost use Rattle.words.specs.Lines.{settings, read_entry, entry_of, fits, judge, verdict};
+ghost use Rattle.words.specs.Lines.{settings, read_entry, entry_of, judge, verdict};
 
 use crate::fault::Fault;
 use crate::{BODY, CHOICE, MOST_LINES, NONE, SETTINGS, SLOT};
@@ -87,16 +87,6 @@ pub fn body_of(bytes: &[u8]) -> [u8; BODY]
     body
 }
 
-// Whether what arrives is for an output that is there.
-fn fits(n: u8, arrival: Arrival) -> bool
-    ensures { result ≡ fits n arrival }
-{
-    match arrival {
-        Arrival::Nothing => true,
-        Arrival::For(output) => output < n,
-    }
-}
-
 // Judges the n lines of a word, whose bytes have to end with the last: the lowest fault, or none.
 pub fn judge_lines(n: u8, size: usize, late: bool, bytes: &[u8]) -> Result<(), Fault>
     ensures { result ≡ verdict (judge n size late bytes.now) }
@@ -107,7 +97,9 @@ pub fn judge_lines(n: u8, size: usize, late: bool, bytes: &[u8]) -> Result<(), F
         let Some(entry) = read_entry(rest, size) else {
             return Err(Fault::Malformed);
         };
-        all_fit &= fits(n, entry.arrival);
+        if let Arrival::For(output) = entry.arrival {
+            all_fit &= output < n;
+        }
         rest = entry.rest;
     }
     if rest.len() > 0 {
