@@ -74,6 +74,16 @@ impl<'a, S: Switch> Server<'a, S> {
         switch
     }
 
+    // Ends with the switch as it is now, and with the answers.
+    pub fn into_parts(self) -> (&'a mut S, Vec<u8>)
+        ensures value { result.0.now ≡ self.entry.switch }
+        ensures lent { result.0.ghost_name ≡ self.entry.lender }
+        ensures answers { result.1.items ≡ self.entry.answers }
+    {
+        let Server { switch, out, .. } = self;
+        (switch, out)
+    }
+
     // Ends with the answers.
     pub fn into_answers(self) -> Vec<u8>
         ensures { result.items ≡ self.entry.answers }

@@ -1,5 +1,5 @@
 // A stream that comes by pieces.
-ghost use Rattle.std.specs.Prelude.{◌≡◌, ℕ, ◌<◌, ◌≤◌, List, [], ◌++◌, length, Result, IfOk};
+ghost use Rattle.std.specs.Prelude.{◌≡◌, ℕ, ◌<◌, ◌≤◌, List, [], ◌++◌, drop, length, Result, IfOk, vec_len};
 ghost use Rattle.std.specs.List.{flat_map};
 ghost use Rattle.std.specs.declared.alloc.AllocError.{AllocError};
 ghost use Rattle.switch.specs.Respond.Status.{Unset};
@@ -45,6 +45,18 @@ pub trait Service {
         ensures empty { writes self.new ≡ [] };
 }
 
+// Lets go of the first bytes. What is left is little, and moved once: `drain` would turn all of the bytes round.
+fn let_go(bytes: &mut Vec<u8>, used: usize)
+    requires { used ≤ vec_len bytes.old }
+    ensures { bytes.new.items ≡ drop used bytes.old.items }
+{
+    if used > 0 {
+        let left = bytes.len() - used;
+        bytes.copy_within(used.., 0);
+        bytes.truncate(left);
+    }
+}
+
 // What serves the words, and the bytes that begin no whole word yet.
 #[derive(Drop)]
 pub struct Stream<S> {
@@ -60,13 +72,14 @@ impl<S: Service> Stream<S> {
     {
         self.pending.extend_from_slice(piece)?;
         let used = self.service.serve(&self.pending)?;
-        self.pending.drain(..used);
+        let_go(&mut self.pending, used);
         Ok(())
     }
 
-    // Serves what the end of the stream leaves over.
+    // Serves what the end of the stream leaves over, which stays as it is.
     pub fn end(&mut self) -> Result<(), AllocError>
-        ensures { S.ends self.old.service self.old.pending.items result self.new.service }
+        ensures ended { S.ends self.old.service self.old.pending.items result self.new.service }
+        ensures kept { self.new.pending.items ≡ self.old.pending.items }
     {
         self.service.end(&self.pending)
     }

@@ -17,5 +17,5 @@ loop-piece-preserved g c =
 pub returns : goal.returns
 returns g c =
     let none = nil_from_length _ c.in-None.ensures.steps.1.0 in
-    let all = fed-all g.S.Switch.shows _ _ _ _ _ c.loop-piece.invariant c.end.new.self.service none c.in_ok-end.ensures in
+    let all = fed-all g.S.Switch.shows _ _ _ _ _ c.loop-piece.invariant c.end.new.self.service none c.in_ok-end.ensures.ended in
     c.into_answers.ensures ∙ (rw c.new.ensures at all).answers Unset c.requires.unset
