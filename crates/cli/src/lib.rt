@@ -8,5 +8,5 @@ mod usage;
 
 pub use args::{Request, read_args};
 pub use fault::CliError;
-pub use program::{ended, run, serve_input};
+pub use program::{ended, report, run, serve_input};
 pub use usage::{Usage, print_usage};

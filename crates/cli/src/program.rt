@@ -69,15 +69,22 @@ pub fn run<S: Switch>(rt: &HostRuntime, name: &str, switch: &mut S) -> Result<()
     }
 }
 
-// Says on standard error what went wrong, if anything did, and gives the status to end with.
+// Says on standard error what went wrong, if anything did, and hands it on.
+pub fn report(rt: &HostRuntime, name: &str, res: Result<(), CliError>) -> Result<(), CliError>
+    ensures { result ≡ res }
+{
+    if let Err(e) = &res {
+        let _ = eprintln!(rt; "{name}: {e}");
+    }
+    res
+}
+
+// Says what went wrong, if anything did, and gives the status to end with.
 pub fn ended(rt: &HostRuntime, name: &str, res: Result<(), CliError>) -> ExitCode
     ensures { exit_status result ≡ cond (is_ok res) 0 1 }
 {
-    match res {
+    match report(rt, name, res) {
         Ok(()) => ExitCode::SUCCESS,
-        Err(e) => {
-            let _ = eprintln!(rt; "{name}: {e}");
-            ExitCode::FAILURE
-        }
+        Err(_) => ExitCode::FAILURE,
     }
 }

@@ -33,7 +33,7 @@ pub struct Telling<'b, 'c, 'i> {
 impl<'b, 'c, 'i> Model for Telling<'b, 'c, 'i> {
     ghost Value = { Told };
 
-    ghost view = { λ t. record { crowd_lender = t.crowd.ghost_name; ideal_lender = t.ideal.ghost_name; crowd = t.crowd.now; ideal = t.ideal.now; text = string_bytes t.text } };
+    ghost view = { λ t. record { crowd_lender = t.crowd.ghost_name; ideal_lender = t.ideal.ghost_name; crowd = t.crowd.now; ideal = t.ideal.now; form = t.form; text = string_bytes t.text } };
 
     ghost invariant = { λ t. (st : Status) × Shows t.ideal.now st };
 }
@@ -47,7 +47,7 @@ impl<'b, 'c, 'i> Telling<'b, 'c, 'i> {
         heap: Global,
     ) -> Telling<'b, 'c, 'i>
         requires { (st : Status) × Shows ideal.old st }
-        ensures { result ≡ record { crowd_lender = crowd.entry.ghost_name; ideal_lender = ideal.entry.ghost_name; crowd = crowd.old; ideal = ideal.old; text = [] } }
+        ensures { result ≡ record { crowd_lender = crowd.entry.ghost_name; ideal_lender = ideal.entry.ghost_name; crowd = crowd.old; ideal = ideal.old; form = form; text = [] } }
     {
         Telling {
             crowd,
@@ -83,7 +83,7 @@ impl<'b, 'c, 'i> Telling<'b, 'c, 'i> {
 
     // Takes a word, as it is written, the ideal box too unless it is a choice, and adds what
     // happened to the text.
-    fn tell_word(&mut self, written: &[u8]) -> Result<(), AllocError>
+    pub fn tell_word(&mut self, written: &[u8]) -> Result<(), AllocError>
         ensures { SameBoxes self.old self.new }
     {
         let word = self.form.read(written, &mut self.scratch)?;
@@ -122,6 +122,24 @@ impl<'b, 'c, 'i> Telling<'b, 'c, 'i> {
         (crowd, ideal)
     }
 
+    // Ends with both boxes as they are now, and with the text.
+    pub fn into_parts(self) -> (&'b mut Crowd<'c>, &'b mut IdealBox<'i>, String)
+        ensures crowd { result.0.now ≡ self.entry.crowd }
+        ensures ideal { result.1.now ≡ self.entry.ideal }
+        ensures shows { (st : Status) × Shows result.1.now st }
+        ensures crowd_lent { result.0.ghost_name ≡ self.entry.crowd_lender }
+        ensures ideal_lent { result.1.ghost_name ≡ self.entry.ideal_lender }
+        ensures text { string_bytes result.2 ≡ self.entry.text }
+    {
+        let Telling {
+            crowd,
+            ideal,
+            text,
+            ..
+        } = self;
+        (crowd, ideal, text)
+    }
+
     // Ends with the text.
     pub fn into_text(self) -> String
         ensures { string_bytes result ≡ self.entry.text }
@@ -138,7 +156,7 @@ impl<'b, 'c, 'i> Service for Telling<'b, 'c, 'i> {
 
     ghost writes = { λ t. t.text };
 
-    ghost cleared = { λ t. record { crowd_lender = t.crowd_lender; ideal_lender = t.ideal_lender; crowd = t.crowd; ideal = t.ideal; text = [] } };
+    ghost cleared = { λ t. record { crowd_lender = t.crowd_lender; ideal_lender = t.ideal_lender; crowd = t.crowd; ideal = t.ideal; form = t.form; text = [] } };
 
     // The loop of `Server` again: one loop for both would say of any words taken in turn what each says of its own.
     fn serve(&mut self, input: &[u8]) -> Result<usize, AllocError> {
