@@ -3,8 +3,7 @@ ghost use Rattle.std.specs.Prelude.{◌≡◌, ℕ, ◌^◌, ◌<◌, false, ◌
 ghost use Rattle.words.specs.Lines.{judge, verdict};
 ghost use Rattle.cioq.specs.Arrivals.{Brings, admit_one, turned_away, admit_all, away, slot_lines};
 
-use crate::RealBox;
-use buffer::ROOM;
+use crate::{ROOM, RealBox};
 use crossbox::{Arrival, Cell};
 use words::{BODY, MOST_LINES, body_of, read_entry};
 
@@ -21,7 +20,7 @@ impl<'a> RealBox<'a> {
             return false;
         };
         let count = self.held[output as usize];
-        if count as usize >= ROOM {
+        if count >= ROOM {
             return true;
         }
         let stored = self.memory.len(self.lines + output);

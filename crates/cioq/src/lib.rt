@@ -25,6 +25,9 @@ pub use kept::{
 use std::marker::Model;
 use words::MOST_LINES;
 
+// How many cells the box holds for an output.
+pub const ROOM: u16 = 256;
+
 // Rows: a list for each of 32 inputs, and a store for each of 32 outputs.
 pub const ROWS: usize = 64;
 

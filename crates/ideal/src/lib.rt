@@ -9,7 +9,8 @@ ghost use Rattle.ideal.specs.State.{unset, begun};
 ghost use Rattle.ideal.specs.Steps.{Brings, Reads, lines_of, admit_one, admitted, away, turned_away, departing, departed, departure_of, departures, served, leavers, rejects};
 ghost use Rattle.words.specs.Answer.{Written, leaving, leaving_all};
 
-use buffer::{Loan, Memory, PLACES_A_LINE, ROOM};
+pub use buffer::ROOM;
+use buffer::{Loan, Memory, PLACES_A_LINE};
 use crossbox::{Arrival, Cell};
 use std::marker::Model;
 use words::{ANSWER, ANSWER_BYTES, Answer, BODY, DEPARTURE_BYTES, MOST_LINES, body_of, read_entry};
