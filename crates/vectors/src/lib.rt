@@ -27,11 +27,11 @@ impl Vector {
         })
     }
 
-    // Whether what came is as expected; says where it is not.
-    pub fn judge<E: fmt::Display + Drop>(
+    // Whether what came is as expected; says where it is not, with the way in which it came.
+    pub fn judge<W: fmt::Display + Drop, E: fmt::Display + Drop>(
         &self,
         rt: &HostRuntime,
-        way: &str,
+        way: W,
         came: Result<&[u8], E>,
     ) -> anyhow::Result<bool>
         ensures as_expected { IfOk result (λ good. good ≡ true → AsExpected came.entry self.now.expected.items) }
