@@ -1,6 +1,6 @@
 -- Digits: each is read back, and so are the digits of a word.
-use Rattle.std.proofs.Common.{◌≡◌, ℕ, zero, suc, ◌+◌, ◌*◌, ◌/◌, ◌%◌, ◌<◌, ◌≤◌, Bool, true, false, cond, ◌&&◌, eqb, ltb, List, [], ◌∷◌, ◌++◌, length, get_or, set, Some, None, Option, inl, inr, sym, refl, ap, ◌∙◌, arith}
-use Rattle.std.proofs.lemmas.List.{length_push, length-set, get_or-set_other}
+use Rattle.std.proofs.Common.{◌≡◌, ℕ, zero, suc, ◌+◌, ◌*◌, ◌/◌, ◌%◌, ◌<◌, ◌≤◌, Bool, true, false, cond, ◌&&◌, eqb, ltb, List, [], ◌∷◌, ◌++◌, length, get_or, set, take, Some, None, Option, inl, inr, sym, refl, ap, ◌∙◌, append_assoc, append-nil, arith}
+use Rattle.std.proofs.lemmas.List.{length_push, length-set, get_or-set_other, take_more}
 use Rattle.std.proofs.lemmas.Grind.{get_or-set_at}
 use Rattle.std.proofs.lemmas.Bool.{cases_Bool, ltb-true, ltb-false, eqb-true, le-ltb}
 use Rattle.std.proofs.lemmas.Bool.Decides.{nat_tests}
@@ -141,17 +141,52 @@ length_digits (b ∷ bs) = let ih = length_digits bs in omega arith
 pub length-hex_line : (w : List ℕ) → length (hex_line w) ≡ 2 * length w + 1
 length-hex_line w = length_push (digits w) line_feed ∙ ap (λ n. n + 1) (length_digits w)
 
--- a line while it is written: the digits of the first i bytes stand in a part, two by two
-abbrev pub Written : List ℕ → ℕ → List ℕ → Type 0
-Written word i part =
-    (j : ℕ) → j < i → (get_or part (2 * j) 0 ≡ digit (get_or word j 0 / digit_values)) × (get_or part (2 * j + 1) 0 ≡ digit (get_or word j 0 % digit_values))
+digits_append : (v w : List ℕ) → digits (v ++ w) ≡ digits v ++ digits w
+unfolding digits
+digits_append [] w = refl
+digits_append (b ∷ bs) w = ap (λ z. digit (b / digit_values) ∷ digit (b % digit_values) ∷ z) (digits_append bs w)
+
+digits-one : (b : ℕ) → digits (b ∷ []) ≡ digit (b / digit_values) ∷ digit (b % digit_values) ∷ []
+unfolding digits
+digits-one b = refl
+
+-- The writing of a line behind what stood before it: the digits of the first i bytes are written.
+abbrev pub Written : List ℕ → List ℕ → ℕ → List ℕ → Type 0
+Written before word i after = after ≡ before ++ digits (take i word)
+
+pub written_none : (before word : List ℕ) → Written before word 0 before
+unfolding digits
+written_none before word = sym (append-nil before)
 
 pub written_more :
+    (before word was between after : List ℕ) (i high low : ℕ) →
+    i < length word →
+    Written before word i was →
+    high ≡ digit (get_or word i 0 / digit_values) →
+    between ≡ was ++ high ∷ [] →
+    low ≡ digit (get_or word i 0 % digit_values) → after ≡ between ++ low ∷ [] → Written before word (i + 1) after
+written_more before word was between after i high low h w eh e el f =
+    let b : ℕ = get_or word i 0 in
+    f ∙ ap (λ z. z ++ low ∷ []) e ∙ append_assoc was (high ∷ []) (low ∷ [])
+    ∙ ap (λ z. z ++ high ∷ low ∷ []) w
+    ∙ append_assoc before (digits (take i word)) (high ∷ low ∷ [])
+    ∙ ap (λ z. before ++ (digits (take i word) ++ z ∷ low ∷ [])) eh
+    ∙ ap (λ z. before ++ (digits (take i word) ++ digit (b / digit_values) ∷ z ∷ [])) el
+    ∙ ap (λ z. before ++ (digits (take i word) ++ z)) (sym (digits-one b))
+    ∙ ap (λ z. before ++ z) (sym (digits_append (take i word) (b ∷ [])))
+    ∙ ap (λ z. before ++ digits z) (sym (take_more word i 0 h))
+
+-- a line while it is written: the digits of the first i bytes stand in a part, two by two
+abbrev pub WrittenIn : List ℕ → ℕ → List ℕ → Type 0
+WrittenIn word i part =
+    (j : ℕ) → j < i → (get_or part (2 * j) 0 ≡ digit (get_or word j 0 / digit_values)) × (get_or part (2 * j + 1) 0 ≡ digit (get_or word j 0 % digit_values))
+
+pub written_in_more :
     (word part : List ℕ) (i high low : ℕ) →
-    2 * i + 1 < length part → Written word i part →
+    2 * i + 1 < length part → WrittenIn word i part →
     high ≡ digit (get_or word i 0 / digit_values) → low ≡ digit (get_or word i 0 % digit_values) →
-    Written word (i + 1) (set (set part (2 * i) high) (2 * i + 1) low)
-written_more word part i high low h w eh el j l = elim (cases_Bool (ltb j i)) [
+    WrittenIn word (i + 1) (set (set part (2 * i) high) (2 * i + 1) low)
+written_in_more word part i high low h w eh el j l = elim (cases_Bool (ltb j i)) [
   | inl e ↦
       let less = ltb-true j i e in
       let one = get_or-set_other (set part (2 * i) high) (2 * i + 1) (2 * j) low 0 (omega arith) in
@@ -170,7 +205,7 @@ written_more word part i high low h w eh el j l = elim (cases_Bool (ltb j i)) [
 
 -- a part with all digits, and a line feed behind them, is the line
 pub written_all :
-    (word part : List ℕ) → length part ≡ 2 * length word + 1 → Written word (length word) part →
+    (word part : List ℕ) → length part ≡ 2 * length word + 1 → WrittenIn word (length word) part →
     set part (2 * length word) line_feed ≡ hex_line word
 unfolding digits
 written_all [] [] size w = absurd (omega arith)
@@ -181,7 +216,7 @@ written_all (b ∷ bs) (x ∷ []) size w = absurd (omega arith)
 written_all (b ∷ bs) (x ∷ y ∷ part) size w =
     let first = w 0 (omega arith) in
     let place : 2 * suc (length bs) ≡ suc (suc (2 * length bs)) = omega arith in
-    let later : Written bs (length bs) part = λ j l.
+    let later : WrittenIn bs (length bs) part = λ j l.
     let at : 2 * suc j ≡ suc (suc (2 * j)) = omega arith in
     let next : 2 * suc j + 1 ≡ suc (suc (2 * j + 1)) = omega arith in
     let more = w (suc j) (omega arith) in

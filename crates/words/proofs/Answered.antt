@@ -2,7 +2,7 @@
 use Rattle.std.proofs.Common.{◌≡◌, ℕ, suc, ◌+◌, ◌*◌, ◌/◌, ◌%◌, ◌^◌, ◌<◌, ◌≤◌, Bool, true, false, cond, eqb, List, [], ◌∷◌, ◌++◌, length, get_or, take, drop, Some, None, Option, sym, refl, ap, ◌∙◌, zero-add, arith}
 use native.Mathlib.Nat.{div-div-eq-div-mul}
 use mir.Val.{bool_byte}
-use Rattle.std.proofs.lemmas.List.{append_assoc, append-nil, length-append, take_at, drop_at}
+use Rattle.std.proofs.lemmas.List.{append_assoc, append-nil, length-append, take_at, drop_at, take_more}
 use Rattle.std.proofs.lemmas.Bool.{ne_eqb, le-ltb}
 use Rattle.crossbox.specs.declared.Cell.{Cell}
 use Rattle.words.proofs.Overwrites.{appended_then, appended-none, overwrite_front, overwrite-behind}
@@ -56,12 +56,24 @@ flag_byte : (b : Bool) → bool_byte b ≡ cond b 1 0
 flag_byte true = refl
 flag_byte false = refl
 
--- one departure more is written
+-- one departure more, and one flag more, are written
 pub departure_more : (w now last : Draft) (ds : List Departure) (d : Departure) →
     now ≡ appended (leaving_all ds) w → last ≡ appended (leaving d) now → last ≡ appended (leaving_all (ds ++ (d ∷ []))) w
 departure_more w now last ds d e f =
     f ∙ ap (λ (z : Draft). appended (leaving d) z) e ∙ appended_then (leaving_all ds) (leaving d) w
     ∙ ap (λ (bs : List ℕ). appended bs w) (sym (leaving_push ds d))
+
+pub flag_more : (w now last : Draft) (flags : List Bool) (k b : ℕ) → k < length flags → b ≡ bool_byte (get_or flags k false) →
+    now ≡ appended (flag_bytes (take k flags)) w → last ≡ appended (b ∷ []) now → last ≡ appended (flag_bytes (take (k + 1) flags)) w
+flag_more w now last flags k b h g e f =
+    f ∙ ap (λ (z : Draft). appended (b ∷ []) z) e ∙ appended_then (flag_bytes (take k flags)) (b ∷ []) w
+    ∙ ap (λ (x : ℕ). appended (flag_bytes (take k flags) ++ (x ∷ [])) w) (g ∙ flag_byte (get_or flags k false))
+    ∙ ap (λ (bs : List ℕ). appended bs w) (sym (flags_push (take k flags) (get_or flags k false)))
+    ∙ ap (λ (fs : List Bool). appended (flag_bytes fs) w) (sym (take_more flags k false h))
+
+pub no_flags : (w : Draft) → w ≡ appended (flag_bytes []) w
+unfolding flag_bytes
+no_flags w = sym (appended-none w)
 
 -- flags in a part of as many bytes, as the code leaves them
 pub flags_written : (bytes : List ℕ) (flags : List Bool) → length bytes ≡ length flags →

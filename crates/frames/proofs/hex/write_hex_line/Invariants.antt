@@ -1,5 +1,5 @@
-use Rattle.frames.proofs.Digits.{Written}
+use Rattle.frames.proofs.Digits.{WrittenIn}
 use Rattle.frames.proofs.hex.write_hex_line.Given as goal
 
 abbrev pub invariant-loop-i : goal.invariant-loop-i
-invariant-loop-i l = Written l.word l.i l.part
+invariant-loop-i l = WrittenIn l.word l.i l.part
